@@ -1,0 +1,118 @@
+-- How many digits a number has: the fewest that hold it. Nothing here depends on a word's size.
+-- Assumes nothing.
+use Prim.Native.Nat.{ℕ, zero, suc, _+_, _*_, _^_, _-_, _/_, _≤_, _<_}
+use mathlib.Core.Path.{_≡_, refl, ap}
+use native.Mathlib.Omega.{arith}
+use native.Mathlib.Numerals.{add-one}
+use native.Mathlib.Nat.{pow-suc, pow-le-pow-right}
+use lib.Dec.{ltb, leb}
+use borrow.Author.Tests.{lt-ltb, le-ltb, ltb-true, ltb-false, leb-true, leb-false}
+use Rattle.laws.proofs.Tests.{by-test}
+use Rattle.decimal.specs.Digits.{countUpTo, digitCount}
+
+-- the limit of the recursion does not matter where it is large enough
+count-same : (f g n : ℕ) → n < f → n < g → countUpTo f n ≡ countUpTo g n
+unfolding countUpTo
+count-same zero g n h k = absurd (omega arith)
+count-same (suc f) zero n h k = absurd (omega arith)
+count-same (suc f) (suc g) n h k =
+    by-test (ltb n 10)
+    (λ t. simp t)
+    (λ t. simp t (ap (λ (r : ℕ). r + 1) (count-same f g (n / 10) (omega (arith, ltb-false n 10 t)) (omega (arith, ltb-false n 10 t)))))
+
+-- below ten one digit, else one more than without the last digit
+pub count-one : (n : ℕ) → n < 10 → digitCount n ≡ 1
+unfolding digitCount countUpTo
+count-one n h = rw (add-one, lt-ltb n 10 h)
+
+pub count-more : (n : ℕ) → 10 ≤ n → digitCount n ≡ digitCount (n / 10) + 1
+unfolding digitCount countUpTo
+count-more n h =
+    rw (add-one, le-ltb n 10 h)
+    (ap (λ (r : ℕ). r + 1) (count-same n (n / 10 + 1) (n / 10) (omega arith) (omega arith)))
+
+-- induction on a number by its digits: below ten, and from a number without its last digit
+pub by-digits : (P : ℕ → Type 0) → ((n : ℕ) → n < 10 → P n) → ((n : ℕ) → 10 ≤ n → P (n / 10) → P n) → (n : ℕ) → P n
+by-digits P one more n = below (suc n) n (omega arith)
+  where
+    below : (f m : ℕ) → m < f → P m
+    below zero m h = absurd (omega arith)
+    below (suc f) m h =
+        by-test (ltb m 10)
+        (λ t. one m (ltb-true m 10 t))
+        (λ t. let l = ltb-false m 10 t in more m l (below f (m / 10) (omega arith)))
+
+pub count-some : (n : ℕ) → 0 < digitCount n
+count-some =
+    by-digits (λ n. 0 < digitCount n)
+    (λ n h. omega (arith, count-one n h))
+    (λ n h p. omega (arith, count-more n h))
+
+-- a number is below ten to the power of its count
+pub count-holds : (n : ℕ) → n < 10 ^ digitCount n
+count-holds =
+    by-digits (λ n. n < 10 ^ digitCount n)
+    (λ n h. rw (count-one n h) h)
+    (λ n h p. rw (count-more n h, add-one, pow-suc) (omega arith))
+
+-- a number below a power of ten has at most that many digits
+pub count-within : (k n : ℕ) → n < 10 ^ suc k → digitCount n ≤ suc k
+count-within zero n h = omega (arith, count-one n (omega arith))
+count-within (suc k) n h =
+    by-test (ltb n 10)
+    (λ t. omega (arith, count-one n (ltb-true n 10 t)))
+    (λ t.
+    let l : n < 10 ^ suc k * 10 = rw pow-suc at h in
+    omega (arith, count-more n (ltb-false n 10 t), count-within k (n / 10) (omega arith)))
+
+pub ten-within : {n m : ℕ} → n ≤ m → 10 ^ n ≤ 10 ^ m
+ten-within h = pow-le-pow-right (omega arith) h
+
+-- a number from a power of ten on has more digits than that
+pub count-beyond : (k n : ℕ) → 10 ^ k ≤ n → k < digitCount n
+count-beyond k n h =
+    by-test (leb (digitCount n) k)
+    (λ t.
+    let p : 10 ^ digitCount n ≤ 10 ^ k = ten-within (leb-true (digitCount n) k t) in
+    absurd (omega (arith, count-holds n)))
+    (λ t. leb-false (digitCount n) k t)
+
+-- no fewer digits hold a number
+pub count-fewest : (n : ℕ) → 10 ≤ n → 10 ^ (digitCount n - 1) ≤ n
+count-fewest =
+    by-digits (λ n. 10 ≤ n → 10 ^ (digitCount n - 1) ≤ n)
+    (λ n h l. absurd (omega arith))
+    (λ n h p l. fewest-step n l p)
+  where
+    fewest-step : (n : ℕ) → 10 ≤ n → (10 ≤ n / 10 → 10 ^ (digitCount (n / 10) - 1) ≤ n / 10) → 10 ^ (digitCount n - 1) ≤ n
+    fewest-step n l p =
+        let k = digitCount (n / 10) in
+        let e : digitCount n - 1 ≡ k = omega (arith, count-more n l) in
+        rw e
+        (by-test (ltb (n / 10) 10)
+        (λ t. rw (count-one (n / 10) (ltb-true (n / 10) 10 t)) l)
+        (λ t.
+        let g : k ≡ suc (k - 1) = omega (arith, count-some (n / 10)) in
+        rw (g, pow-suc) (omega (arith, p (ltb-false (n / 10) 10 t)))))
+
+-- `count` powers of ten were passed, and `power` is the next to compare with
+pub record Passed (value count power : ℕ) : Type 0 where
+  pub some : 1 ≤ count
+  pub reached : count ≤ digitCount value
+  pub next : power ≡ 10 ^ count
+
+pub passed-start : (value : ℕ) → Passed value 1 10
+passed-start value = record { some = omega arith; reached = count-some value; next = refl }
+
+pub passed-more : {value count power : ℕ} → Passed value count power → power ≤ value → Passed value (count + 1) (power * 10)
+passed-more {value} {count} {power} p h =
+    record {
+      some = omega arith;
+      reached = omega (arith, count-beyond count value (rw (p .next) at h));
+      next = rw (p .next, add-one, pow-suc) refl;
+    }
+
+pub passed-end : {value count power : ℕ} → Passed value count power → value < power → count ≡ digitCount value
+passed-end {value} {count} {power} p h =
+    let e : count ≡ suc (count - 1) = omega (arith, p .some) in
+    omega (arith, p .reached, count-within (count - 1) value (rw (p .next, e) at h))

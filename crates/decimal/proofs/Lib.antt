@@ -1,0 +1,10 @@
+pub mod Counts
+pub mod Values
+pub mod Writing
+pub mod Putting
+pub mod Signs
+pub mod Fields
+pub mod Reading
+pub mod RoundTrip
+pub mod Claims
+pub mod Examples

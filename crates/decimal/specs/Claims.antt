@@ -1,0 +1,28 @@
+-- What is proved of decimal digits, for numbers of any size.
+--   Claims   one field for each theorem; proofs/Claims.antt has the proof of all
+-- Assumes nothing.
+use Prim.Native.Nat.{ℕ, suc, _-_, _^_, _≤_, _<_}
+use mathlib.Core.Bool.{false}
+use mathlib.Core.List.{List, [], _++_}
+use mathlib.Core.Path.{_≡_}
+use lib.ListN.{length}
+use Rattle.decimal.specs.Digits.{digitCount, decimal, valueOf}
+use Rattle.decimal.specs.Fields.{maxDigits, digitRun, leadingZero, fieldOf}
+use Rattle.decimal.specs.declared.field.Field.the-variants.{Number}
+
+-- The theorems on digits, counts and reading back.
+pub record Claims : Type 0 where
+  -- The digits of a number spell it.
+  pub value-decimal : (n : ℕ) → valueOf (decimal n) ≡ n
+  -- There are as many as the count says.
+  pub length-decimal : (n : ℕ) → length (decimal n) ≡ digitCount n
+  -- A number is below ten to the power of its count.
+  pub count-holds : (n : ℕ) → n < 10 ^ digitCount n
+  -- No fewer digits hold it.
+  pub count-fewest : (n : ℕ) → 10 ≤ n → 10 ^ (digitCount n - 1) ≤ n
+  -- A number below a power of ten has at most that many digits.
+  pub count-within : (k n : ℕ) → n < 10 ^ suc k → digitCount n ≤ suc k
+  -- No number has a leading zero; the digits of 0 are a single 0.
+  pub no-leading-zero : (n : ℕ) → leadingZero (decimal n) ≡ false
+  -- Reading a number's digits, with no digit after them, gives the number and its length back.
+  pub round-trip : (n : ℕ) (rest : List ℕ) → digitCount n ≤ maxDigits → digitRun rest ≡ [] → fieldOf (decimal n ++ rest) ≡ Number n (digitCount n)

@@ -1,0 +1,185 @@
+-- An accepted set is in order and within its limits, and a set that is so is accepted. Assumes nothing.
+use Prim.Native.Nat.{ℕ, zero, suc, _+_, _-_, _≤_, _<_}
+use mathlib.Core.Path.{_≡_, refl, sym, ap, subst, _∙_}
+use mathlib.Core.Bool.{Bool, true, false, cond, _&&_, true≢false}
+use mathlib.Core.List.{List, [], _∷_, _++_}
+use mathlib.Core.Logic.{_⊎_, inl, inr}
+use native.Mathlib.Omega.{arith}
+use native.Mathlib.Numerals.{add-one}
+use lib.ListN.{length, take, drop, getD}
+use lib.Seq.{take-suc, drop-cons, length-take-le}
+use lib.Dec.{leb, ltb, eqb}
+use borrow.Author.Tests.{leb-true, leb-false, ltb-true, eqb-true, eqb-false, eq-eqb, ne-eqb, le-leb, lt-ltb, lt-leb}
+use Rattle.laws.specs.Places.{lastOf}
+use Rattle.laws.proofs.Tests.{by-test, and-left, and-right, and-both}
+use Rattle.jobs.specs.declared.job.Job.{Job}
+use Rattle.jobs.specs.declared.refusal.Refusal.{Refusal}
+use Rattle.jobs.specs.declared.refusal.Check.{Check}
+use Rattle.jobs.specs.declared.refusal.Check.the-variants.{Passed, Refused}
+use Rattle.jobs.specs.Limits.{maxJobs, maxChains, maxRelease, maxPriority, maxTime, maxDeadline}
+use Rattle.jobs.specs.Refusals.{unless, andThen}
+use Rattle.jobs.specs.Jobs.{noJob}
+use Rattle.jobs.specs.Records.{isNext, inLimits, recordCheck}
+use Rattle.jobs.specs.Checks.{recordsCheck, anyRecord, checkOf}
+use Rattle.jobs.specs.Accepted.{Follows, Limited, jobAt, Accepted}
+use Rattle.jobs.proofs.Checks.{then-first, then-second, nextCheck, last-take, Reached, reached-start, reached-next, reached-end, any-some, check-passed}
+
+-- ---- a record that passes
+unless-test : (b : Bool) (r : Refusal) (later : Check) → unless b r later ≡ Passed → b ≡ true
+unless-test true r later e = refl
+unless-test false r later e = let z : _≡_ {A = ℕ} 0 1 = cc in absurd (omega arith)
+
+unless-later : (b : Bool) (r : Refusal) (later : Check) → unless b r later ≡ Passed → later ≡ Passed
+unless-later true r later e = e
+unless-later false r later e = let z : _≡_ {A = ℕ} 0 1 = cc in absurd (omega arith)
+
+pub record Fine (n : ℕ) (last j : Job) : Type 0 where
+  pub room : n < maxJobs
+  pub next : isNext n last j ≡ true
+  pub within : inLimits j ≡ true
+
+pub record-fine : (n : ℕ) (last j : Job) → recordCheck n last j ≡ Passed → Fine n last j
+unfolding recordCheck
+record-fine n last j e =
+    let f = unless-later (ltb n maxJobs) _ _ e in
+    let g = unless-later (isNext n last j) _ _ f in
+    record {
+      room = ltb-true n maxJobs (unless-test (ltb n maxJobs) _ _ e);
+      next = unless-test (isNext n last j) _ _ f;
+      within = unless-test (inLimits j) _ _ g;
+    }
+
+pub fine-record : (n : ℕ) (last j : Job) → Fine n last j → recordCheck n last j ≡ Passed
+unfolding recordCheck
+fine-record n last j f = rw (lt-ltb n maxJobs (f .room), f .next, f .within)
+
+-- ---- order
+follows : (n : ℕ) (i j : Job) → isNext (suc n) i j ≡ true → Follows i j
+unfolding isNext
+follows n i j e =
+    by-test (eqb (j .chain) (i .chain))
+    (λ t. inl (eqb-true (j .chain) (i .chain) t, eqb-true (j .job) (i .job + 1) (simp (ne-eqb (suc n) 0 (λ z. omega arith), t) at e)))
+    (λ t.
+    let both = simp (ne-eqb (suc n) 0 (λ z. omega arith), t) at e in
+    inr (eqb-true (j .chain) (i .chain + 1) (and-left _ (eqb (j .job) 1) both), eqb-true (j .job) 1 (and-right (eqb (j .chain) (i .chain + 1)) _ both)))
+
+first-next : (last j : Job) → isNext 0 last j ≡ true → (j .chain ≡ 1) × (j .job ≡ 1)
+unfolding isNext
+first-next last j e =
+    (eqb-true (j .chain) 1 (and-left _ (eqb (j .job) 1) e), eqb-true (j .job) 1 (and-right (eqb (j .chain) 1) _ e))
+
+-- ---- limits
+limited : (j : Job) → inLimits j ≡ true → Limited j
+unfolding inLimits
+limited j e =
+    let a = leb (j .chain) maxChains in
+    let b = a && leb (j .release) maxRelease in
+    let c = b && leb (j .priority) maxPriority in
+    let d = c && leb 1 (j .least) in
+    let f = d && leb (j .least) (j .most) in
+    let g = f && leb (j .most) maxTime in
+    let eg = and-left g (leb (j .deadline) maxDeadline) e in
+    let ef = and-left f (leb (j .most) maxTime) eg in
+    let ed = and-left d (leb (j .least) (j .most)) ef in
+    let ec = and-left c (leb 1 (j .least)) ed in
+    let eb = and-left b (leb (j .priority) maxPriority) ec in
+    record {
+      chains = leb-true (j .chain) maxChains (and-left a (leb (j .release) maxRelease) eb);
+      release = leb-true (j .release) maxRelease (and-right a _ eb);
+      priority = leb-true (j .priority) maxPriority (and-right b _ ec);
+      positive = leb-true 1 (j .least) (and-right c _ ed);
+      range = leb-true (j .least) (j .most) (and-right d _ ef);
+      time = leb-true (j .most) maxTime (and-right f _ eg);
+      deadline = leb-true (j .deadline) maxDeadline (and-right g _ e);
+    }
+
+-- ---- all records
+pub passes : (js : List Job) → recordsCheck [] js ≡ Passed → (n : ℕ) → n ≤ length js → recordsCheck (take n js) (drop n js) ≡ Passed
+unfolding recordsCheck
+passes js e zero h = e
+passes js e (suc n) h =
+    let f : recordsCheck (take n js) (jobAt js n ∷ drop (suc n) js) ≡ Passed = rw (drop-cons js n noJob h) at (passes js e n (omega arith)) in
+    rw (take-suc js n noJob h)
+    (then-second (nextCheck (take n js) (jobAt js n)) (recordsCheck (take n js ++ (jobAt js n ∷ [])) (drop (suc n) js)) f)
+
+pub fine-at : (js : List Job) → recordsCheck [] js ≡ Passed → (n : ℕ) → n < length js → Fine n (lastOf noJob (take n js)) (jobAt js n)
+unfolding recordsCheck
+fine-at js e n h =
+    let f : recordsCheck (take n js) (jobAt js n ∷ drop (suc n) js) ≡ Passed = rw (drop-cons js n noJob h) at (passes js e n (omega arith)) in
+    let g = then-first (nextCheck (take n js) (jobAt js n)) (recordsCheck (take n js ++ (jobAt js n ∷ [])) (drop (suc n) js)) f in
+    record-fine n (lastOf noJob (take n js)) (jobAt js n) (rw (length-take-le n js (omega arith)) at g)
+
+pub limited-at : (js : List Job) → recordsCheck [] js ≡ Passed → (n : ℕ) → n < length js → Limited (jobAt js n)
+limited-at js e n h = limited (jobAt js n) (fine-at js e n h .within)
+
+some-any : (js : List Job) → anyRecord js ≡ Passed → 0 < length js
+some-any [] e = let z : _≡_ {A = ℕ} 0 1 = cc in absurd (omega arith)
+some-any (j ∷ js) e = omega arith
+
+pub records-few : (js : List Job) → recordsCheck [] js ≡ Passed → length js ≤ maxJobs
+records-few js e =
+    by-test (leb (length js) maxJobs)
+    (λ t. leb-true (length js) maxJobs t)
+    (λ t. absurd (let f = fine-at js e maxJobs (leb-false (length js) maxJobs t) in omega (arith, f .room)))
+
+pub accepted : (js : List Job) → checkOf js ≡ Passed → Accepted js
+unfolding checkOf
+accepted js e =
+    let all : recordsCheck [] js ≡ Passed = then-first (recordsCheck [] js) (anyRecord js) e in
+    let some : 0 < length js = some-any js (then-second (recordsCheck [] js) (anyRecord js) e) in
+    record {
+      some = some;
+      few = records-few js all;
+      first = first-next _ _ (fine-at js all 0 some .next);
+      order = λ i h. follows i (jobAt js i) (jobAt js (suc i)) (rw (last-take js i (omega arith)) at (fine-at js all (suc i) h .next));
+      limits = limited-at js all;
+    }
+
+-- ---- a set in order and within its limits is accepted
+limited-within : (j : Job) → Limited j → inLimits j ≡ true
+unfolding inLimits
+limited-within j l =
+    rw (
+      le-leb (j .chain) maxChains (l .chains),
+      le-leb (j .release) maxRelease (l .release),
+      le-leb (j .priority) maxPriority (l .priority),
+      le-leb 1 (j .least) (l .positive),
+      le-leb (j .least) (j .most) (l .range),
+      le-leb (j .most) maxTime (l .time),
+      le-leb (j .deadline) maxDeadline (l .deadline),
+    )
+
+follows-next : (n : ℕ) (i j : Job) → Follows i j → isNext (suc n) i j ≡ true
+unfolding isNext
+follows-next n i j (inl e) = rw (ne-eqb (suc n) 0 (λ z. omega arith), eq-eqb (j .chain) (i .chain) (e .0), eq-eqb (j .job) (i .job + 1) (e .1))
+follows-next n i j (inr e) =
+    rw (
+      ne-eqb (suc n) 0 (λ z. omega arith),
+      ne-eqb (j .chain) (i .chain) (λ z. omega (arith, e .0)),
+      eq-eqb (j .chain) (i .chain + 1) (e .0),
+      eq-eqb (j .job) 1 (e .1),
+    )
+
+next-first : (last j : Job) → (j .chain ≡ 1) × (j .job ≡ 1) → isNext 0 last j ≡ true
+unfolding isNext
+next-first last j e = rw (eq-eqb (j .chain) 1 (e .0), eq-eqb (j .job) 1 (e .1))
+
+record-at : (js : List Job) → Accepted js → (n : ℕ) → n < length js → recordCheck n (lastOf noJob (take n js)) (jobAt js n) ≡ Passed
+record-at js a zero h =
+    fine-record 0 (lastOf noJob (take 0 js)) (jobAt js 0)
+    (record { room = omega arith; next = next-first (lastOf noJob (take 0 js)) (jobAt js 0) (a .first); within = limited-within (jobAt js 0) (a .limits 0 h) })
+record-at js a (suc n) h =
+    rw (last-take js n (omega arith))
+    (fine-record (suc n) (jobAt js n) (jobAt js (suc n))
+    (record { room = omega (arith, a .few); next = follows-next n (jobAt js n) (jobAt js (suc n)) (a .order n h); within = limited-within (jobAt js (suc n)) (a .limits (suc n) h) }))
+
+reached-all : (js : List Job) → Accepted js → (n : ℕ) → n ≤ length js → Reached js n (lastOf noJob (take n js))
+reached-all js a zero h = reached-start js (lastOf noJob (take 0 js)) (unfold lastOf in refl)
+reached-all js a (suc n) h =
+    let r = reached-next js n (lastOf noJob (take n js)) (reached-all js a n (omega arith)) (jobAt js n) h refl (record-at js a n h) in
+    rw (last-take js n h, ← add-one n) r
+
+pub accepted-passes : (js : List Job) → Accepted js → checkOf js ≡ Passed
+accepted-passes js a =
+    check-passed js Passed (sym (reached-end js (length js) (lastOf noJob (take (length js) js)) (reached-all js a (length js) (omega arith)) (omega arith)))
+    (any-some js (a .some))

@@ -1,0 +1,4 @@
+pub mod Sets
+pub mod Checks
+pub mod Accepted
+pub mod Joins

@@ -1,0 +1,35 @@
+-- `check_record` answers `recordCheck`: the first test that fails decides. Assumes nothing.
+use borrow.Author.Needs.{needs}
+use borrow.Author.Tests.{lt-ltb, le-ltb, not-true, not-false}
+use mathlib.Core.Path.{sym, _∙_}
+use Rattle.jobs.specs.Records.{recordCheck}
+use Rattle.jobs.proofs.record.check_record.Statement.{statement}
+use Rattle.jobs.proofs.record.check_record.Tie as tie
+
+returns : tie.Need-returns
+unfolding recordCheck
+returns c = simp (le-ltb _ _ (c .if1 .taken))
+
+is-next-requires : tie.Need-is-next-requires
+is-next-requires c κs = search needs
+
+returns-2 : tie.Need-returns-2
+unfolding recordCheck
+returns-2 c = simp (lt-ltb _ _ (c .before .before .if1 .left), sym (c .before .is-next .ensures) ∙ not-true _ (c .if2 .taken))
+
+in-limits-requires : tie.Need-in-limits-requires
+in-limits-requires c κs = search needs
+
+returns-3 : tie.Need-returns-3
+unfolding recordCheck
+returns-3 c =
+    simp (lt-ltb _ _ (c .before .before .before .before .if1 .left), sym (c .before .before .before .is-next .ensures) ∙ not-false _ (c .before .before .if2 .left), sym (c .before .in-limits .ensures) ∙ not-true _ (c .if3 .taken))
+
+returns-4 : tie.Need-returns-4
+unfolding recordCheck
+returns-4 c =
+    simp (lt-ltb _ _ (c .before .before .before .before .if1 .left), sym (c .before .before .before .is-next .ensures) ∙ not-false _ (c .before .before .if2 .left), sym (c .before .in-limits .ensures) ∙ not-false _ (c .if3 .left))
+
+pub check-record-spec : {M : Type 1} → statement M
+check-record-spec =
+    tie.close (tie.spec returns is-next-requires returns-2 in-limits-requires returns-3 returns-4)

@@ -1,0 +1,35 @@
+-- What holds of the jobs of an accepted set, place by place from 0.
+--   Follows    the order of two neighbours: the chain goes on with its next job, or the next chain begins with its first
+--   Limited    the limits of one job
+--   Accepted   all of it
+-- Assumes nothing.
+use Prim.Native.Nat.{ℕ, suc, _+_, _≤_, _<_}
+use mathlib.Core.Path.{_≡_}
+use mathlib.Core.List.{List}
+use mathlib.Core.Logic.{_⊎_}
+use lib.ListN.{length, getD}
+use Rattle.jobs.specs.declared.job.Job.{Job}
+use Rattle.jobs.specs.Limits.{maxJobs, maxChains, maxRelease, maxPriority, maxTime, maxDeadline}
+use Rattle.jobs.specs.Jobs.{noJob}
+
+abbrev pub Follows : Job → Job → Type 0
+Follows i j = ((j .chain ≡ i .chain) × (j .job ≡ i .job + 1)) ⊎ ((j .chain ≡ i .chain + 1) × (j .job ≡ 1))
+
+pub record Limited (j : Job) : Type 0 where
+  pub chains : j .chain ≤ maxChains
+  pub release : j .release ≤ maxRelease
+  pub priority : j .priority ≤ maxPriority
+  pub positive : 1 ≤ j .least
+  pub range : j .least ≤ j .most
+  pub time : j .most ≤ maxTime
+  pub deadline : j .deadline ≤ maxDeadline
+
+abbrev pub jobAt : List Job → ℕ → Job
+jobAt js i = getD js i noJob
+
+pub record Accepted (js : List Job) : Type 0 where
+  pub some : 0 < length js
+  pub few : length js ≤ maxJobs
+  pub first : (jobAt js 0 .chain ≡ 1) × (jobAt js 0 .job ≡ 1)
+  pub order : (i : ℕ) → suc i < length js → Follows (jobAt js i) (jobAt js (suc i))
+  pub limits : (i : ℕ) → i < length js → Limited (jobAt js i)

@@ -1,0 +1,21 @@
+-- Jobs and the sets that hold them. Document 01, "A job table", and "A form for each place".
+--   noJob     what stands in a set where there is no job
+--   jobsOf    a set's records, as many as it counts
+--   setOf     the set that holds these jobs, and no job in its other places
+-- Assumes nothing.
+use mathlib.Core.List.{List}
+use lib.ListN.{length, getD}
+use Rattle.laws.specs.Places.{tabulate, padded}
+use Rattle.jobs.specs.declared.job.Job.{Job}
+use Rattle.jobs.specs.declared.set.JobSet.{JobSet}
+use Rattle.jobs.specs.Limits.{maxJobs}
+
+abbrev pub noJob : Job
+noJob = record { chain = 0; job = 0; release = 0; priority = 0; least = 0; most = 0; deadline = 0 }
+
+-- A set handed by value may count more jobs than it has places; the records beyond those hold nothing.
+unfoldable pub jobsOf : JobSet → List Job
+jobsOf set = tabulate 0 (set .count) (λ i. getD (set .jobs) i noJob)
+
+unfoldable pub setOf : List Job → JobSet
+setOf js = record { jobs = padded maxJobs noJob js; count = length js }

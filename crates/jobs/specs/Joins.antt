@@ -1,0 +1,47 @@
+-- A further chain joins a set. Document 01, "Admission joins a chain as the highest-numbered one", and the last paragraph of the refusals.
+--   numbered    records as the jobs k, k + 1, … of the chain c
+--   withChain   a set's jobs and, behind them, the new ones as the next chain
+--   joinCheck   4 to 6 over the joined records, then 7 where there is no new one
+--   joinOf      the joined set, or the refusal and the old set as it was
+-- Assumes nothing.
+use Prim.Native.Nat.{ℕ, _+_}
+use mathlib.Core.List.{List, [], _∷_, _++_}
+use Rattle.laws.specs.Places.{lastOf}
+use Rattle.jobs.specs.declared.job.Job.{Job}
+use Rattle.jobs.specs.declared.set.JobSet.{JobSet}
+use Rattle.jobs.specs.declared.refusal.Check.{Check}
+use Rattle.jobs.specs.declared.refusal.Check.the-variants.{Passed, Refused}
+use Rattle.jobs.specs.declared.join.Joined.{Joined}
+use Rattle.jobs.specs.Refusals.{andThen}
+use Rattle.jobs.specs.Jobs.{noJob, jobsOf, setOf}
+use Rattle.jobs.specs.Checks.{recordsCheck, anyRecord}
+
+-- a job under another chain and job number
+abbrev pub renumbered : ℕ → ℕ → Job → Job
+renumbered c k j =
+    record {
+      chain = c;
+      job = k;
+      release = j .release;
+      priority = j .priority;
+      least = j .least;
+      most = j .most;
+      deadline = j .deadline;
+    }
+
+unfoldable pub numbered : ℕ → ℕ → List Job → List Job
+numbered c k [] = []
+numbered c k (j ∷ js) = renumbered c k j ∷ numbered c (k + 1) js
+
+unfoldable pub withChain : List Job → List Job → List Job
+withChain old new = old ++ numbered (lastOf noJob old .chain + 1) 1 new
+
+unfoldable pub joinCheck : List Job → List Job → Check
+joinCheck old new = andThen (recordsCheck [] (withChain old new)) (anyRecord new)
+
+abbrev pub joinedBy : Check → JobSet → JobSet → Joined
+joinedBy Passed old joined = record { check = Passed; set = joined }
+joinedBy (Refused refusal) old joined = record { check = Refused refusal; set = old }
+
+unfoldable pub joinOf : JobSet → JobSet → Joined
+joinOf old new = joinedBy (joinCheck (jobsOf old) (jobsOf new)) old (setOf (withChain (jobsOf old) (jobsOf new)))

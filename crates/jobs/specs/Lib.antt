@@ -1,0 +1,7 @@
+pub mod Limits
+pub mod Refusals
+pub mod Jobs
+pub mod Records
+pub mod Checks
+pub mod Accepted
+pub mod Joins

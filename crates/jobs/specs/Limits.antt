@@ -1,0 +1,21 @@
+-- The greatest values of a job table. Document 01, "A job table". Assumes nothing.
+use Prim.Native.Nat.{ℕ}
+
+abbrev pub maxJobs : ℕ
+maxJobs = 64
+
+abbrev pub maxChains : ℕ
+maxChains = 16
+
+abbrev pub maxRelease : ℕ
+maxRelease = 1000000000
+
+abbrev pub maxPriority : ℕ
+maxPriority = 255
+
+-- of least and most
+abbrev pub maxTime : ℕ
+maxTime = 1000000
+
+abbrev pub maxDeadline : ℕ
+maxDeadline = 4000000000

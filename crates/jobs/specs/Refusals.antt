@@ -1,0 +1,30 @@
+-- The refusals and their numbers. Document 01, "Numbers of refusal, in checking order". Assumes nothing.
+use Prim.Native.Nat.{ℕ}
+use mathlib.Core.Bool.{Bool, true, false}
+use Rattle.jobs.specs.declared.refusal.Refusal.{Refusal}
+use Rattle.jobs.specs.declared.refusal.Refusal.the-variants.{TextTooLong, NotHeader, MalformedLine, TooManyRecords, OutOfOrder, OutOfLimits, NoRecord, RunningTimes, ShortBuffer, UnknownAlgorithm, ImpossibleState}
+use Rattle.jobs.specs.declared.refusal.Check.{Check}
+use Rattle.jobs.specs.declared.refusal.Check.the-variants.{Passed, Refused}
+
+abbrev pub numberOf : Refusal → ℕ
+numberOf TextTooLong = 1
+numberOf NotHeader = 2
+numberOf MalformedLine = 3
+numberOf TooManyRecords = 4
+numberOf OutOfOrder = 5
+numberOf OutOfLimits = 6
+numberOf NoRecord = 7
+numberOf RunningTimes = 8
+numberOf ShortBuffer = 9
+numberOf UnknownAlgorithm = 10
+numberOf ImpossibleState = 11
+
+-- one check in a sequence: the refusal where the test fails, else what the checks after it come to
+abbrev pub unless : Bool → Refusal → Check → Check
+unless true refusal later = later
+unless false refusal later = Refused refusal
+
+-- two checks in sequence
+abbrev pub andThen : Check → Check → Check
+andThen Passed later = later
+andThen (Refused refusal) later = Refused refusal

@@ -1,0 +1,45 @@
+// The check of a set handed by value, whatever it holds.
+ghost use mathlib.Core.Path.{_≡_};
+ghost use mathlib.Core.List.{[]};
+ghost use Rattle.jobs.specs.Jobs.{jobsOf};
+ghost use Rattle.jobs.specs.Checks.{recordsCheck, checkOf};
+use crate::job::Job;
+use crate::record::check_record;
+use crate::refusal::Check;
+use crate::refusal::Refusal;
+use crate::set::JobSet;
+
+// Refusals 4 to 6 record by record, the first bad record deciding.
+pub fn check_records(set: JobSet) -> Check
+    ensures { λ r. ⌜ r ≡ recordsCheck [] (jobsOf set) ⌝ }
+{
+    let mut last = Job::none();
+    let count = set.count;
+    let mut n: usize = 0;
+    while n < count {
+        if JobSet::MAX_JOBS <= n {
+            return Check::Refused(Refusal::TooManyRecords);
+        }
+        let job = set.jobs[n];
+        if let Check::Refused(refusal) = check_record(n, last, job) {
+            return Check::Refused(refusal);
+        }
+        last = job;
+        n += 1;
+    }
+    Check::Passed
+}
+
+// The same, then 7.
+pub fn check(set: JobSet) -> Check
+    ensures { λ r. ⌜ r ≡ checkOf (jobsOf set) ⌝ }
+{
+    let count = set.count;
+    if let Check::Refused(refusal) = check_records(set) {
+        return Check::Refused(refusal);
+    }
+    if count == 0 {
+        return Check::Refused(Refusal::NoRecord);
+    }
+    Check::Passed
+}

@@ -1,0 +1,7 @@
+// Jobs, sets of jobs, and the checks that decide whether a set is accepted.
+pub mod check;
+pub mod job;
+pub mod join;
+pub mod record;
+pub mod refusal;
+pub mod set;

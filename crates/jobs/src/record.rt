@@ -1,0 +1,61 @@
+// The checks of one record, refusals 4 to 6: how many there are, its place in the order, and its limits.
+ghost use mathlib.Core.Path.{_≡_};
+ghost use Prim.Native.Nat.{_+_};
+ghost use lib.Dec.{eqb};
+ghost use Rattle.jobs.specs.Records.{isNext, inLimits, recordCheck};
+use crate::job::Job;
+use crate::refusal::Check;
+use crate::refusal::Refusal;
+use crate::set::JobSet;
+
+// Whether a number is one more than another, with no sum that could wrap.
+fn is_one_more(number: u64, before: u64) -> bool
+    ensures { λ r. ⌜ r ≡ eqb number (before + 1) ⌝ }
+{
+    if number == 0 {
+        return false;
+    }
+    number - 1 == before
+}
+
+// Whether a job comes next in order after n others, the last of which is last.
+fn is_next(n: usize, last: Job, job: Job) -> bool
+    ensures { λ r. ⌜ r ≡ isNext n last job ⌝ }
+{
+    if n == 0 {
+        return (job.chain == 1) & (job.job == 1);
+    }
+    if job.chain == last.chain {
+        return is_one_more(job.job, last.job);
+    }
+    is_one_more(job.chain, last.chain) & (job.job == 1)
+}
+
+// Whether a job's chain number and values are within their limits.
+fn in_limits(job: Job) -> bool
+    ensures { λ r. ⌜ r ≡ inLimits job ⌝ }
+{
+    (job.chain <= JobSet::MAX_CHAINS)
+        & (job.release <= Job::MAX_RELEASE)
+        & (job.priority <= Job::MAX_PRIORITY)
+        & (1 <= job.least)
+        & (job.least <= job.most)
+        & (job.most <= Job::MAX_TIME)
+        & (job.deadline <= Job::MAX_DEADLINE)
+}
+
+// The check of a record that comes after n others, the last of which is last.
+pub fn check_record(n: usize, last: Job, job: Job) -> Check
+    ensures { λ r. ⌜ r ≡ recordCheck n last job ⌝ }
+{
+    if JobSet::MAX_JOBS <= n {
+        return Check::Refused(Refusal::TooManyRecords);
+    }
+    if !is_next(n, last, job) {
+        return Check::Refused(Refusal::OutOfOrder);
+    }
+    if !in_limits(job) {
+        return Check::Refused(Refusal::OutOfLimits);
+    }
+    Check::Passed
+}

@@ -1,0 +1,26 @@
+// A set of jobs, by value. Places from count on hold no job.
+ghost use mathlib.Core.Path.{_≡_};
+ghost use mathlib.Core.List.{[]};
+ghost use Rattle.jobs.specs.Jobs.{setOf};
+use crate::job::Job;
+
+pub struct JobSet {
+    pub jobs: [Job; JobSet::MAX_JOBS],
+    pub count: usize,
+}
+
+impl JobSet {
+    pub const MAX_JOBS: usize = 64;
+
+    pub const MAX_CHAINS: u64 = 16;
+
+    pub fn empty() -> JobSet
+        ensures { λ r. ⌜ r ≡ setOf [] ⌝ }
+    {
+        let none = Job::none();
+        JobSet {
+            jobs: [none; JobSet::MAX_JOBS],
+            count: 0,
+        }
+    }
+}

@@ -1,0 +1,5 @@
+pub mod Tests
+pub mod Sums
+pub mod Tabulate
+pub mod Lists
+pub mod Buffers

@@ -1,0 +1,48 @@
+-- Lists: what owning an array of structs tells, the rest of a slice, the last element, and padding. Nothing here depends on what the
+-- elements are. Assumes nothing.
+use Prim.Native.Nat.{ℕ, zero, suc, _+_, _-_, _≤_, _<_}
+use mathlib.Core.List.{List, [], _∷_, _++_, append-assoc, map}
+use mathlib.Core.Path.{_≡_, refl, sym, _∙_}
+use native.Mathlib.Omega.{arith}
+use lib.ListN.{length, length-append, length-map, length-drop, length-replicate, take, drop, getD, set, replicate}
+use lib.Seq.{take-all, take-append-seam, set-append-seam}
+use Rattle.laws.specs.Places.{lastOf, padded}
+
+-- the length of an array of structs, as the borrow checker has it
+pub mapped-length : (X Y : Type 0) (f : X → Y) (l : List X) (n : ℕ) → length (map f l) ≡ n → length l ≡ n
+mapped-length X Y f l n e = sym (length-map l f) ∙ e
+
+-- the part of a slice from a on, as the borrow checker has it
+pub rest-is : {A : Type 0} (a : ℕ) (s : List A) → take (length s - a) (drop a s) ≡ drop a s
+rest-is a s = take-all (length s - a) (drop a s) (omega (arith, length-drop a s))
+
+pub last-snoc : {A : Type 0} (xs : List A) (d x : A) → lastOf d (xs ++ (x ∷ [])) ≡ x
+unfolding lastOf
+last-snoc [] d x = refl
+last-snoc (y ∷ xs) d x = last-snoc xs y x
+
+-- ---- padding
+module _ {A : Type 0} (m : ℕ) (d : A) where
+  pub length-padded : (xs : List A) → length xs ≤ m → length (padded m d xs) ≡ m
+  length-padded xs h = length-append xs (replicate (m - length xs) d) ∙ omega (arith, length-replicate (m - length xs) d)
+
+  -- one element more takes the place of the first that pads
+  pub padded-snoc : (xs : List A) (x : A) → length xs < m → set (padded m d xs) (length xs) x ≡ padded m d (xs ++ (x ∷ []))
+  padded-snoc xs x h =
+      let rest = m - length (xs ++ (x ∷ [])) in
+      let k : m - length xs ≡ suc rest = omega (arith, length-append xs (x ∷ [])) in
+      rw k (set-append-seam xs d (replicate rest d) x ∙ sym (append-assoc xs (x ∷ []) (replicate rest d)))
+
+  -- padding by the default of a reading changes no reading
+  pub getD-padded : (xs : List A) (i : ℕ) → getD (padded m d xs) i d ≡ getD xs i d
+  getD-padded xs i = pads xs (m - length xs) i
+    where
+      none : (n i : ℕ) → getD (replicate n d) i d ≡ d
+      none zero i = refl
+      none (suc n) zero = refl
+      none (suc n) (suc i) = none n i
+
+      pads : (xs : List A) (n i : ℕ) → getD (xs ++ replicate n d) i d ≡ getD xs i d
+      pads [] n i = none n i
+      pads (x ∷ xs) n zero = refl
+      pads (x ∷ xs) n (suc i) = pads xs n i

@@ -1,0 +1,51 @@
+-- Sums over places: monotone, equal term by term, one term raised, and limited. Assumes nothing.
+use Prim.Native.Nat.{ℕ, zero, suc, _+_, _*_, _≤_, _<_}
+use mathlib.Core.Path.{_≡_, refl, subst}
+use mathlib.Core.Logic.{_≢_}
+use native.Mathlib.Omega.{arith}
+use lib.Dec.{eqb}
+use borrow.Author.Tests.{eqb-true, eqb-false}
+use Rattle.laws.specs.Places.{sumBelow}
+use Rattle.laws.proofs.Tests.{by-test}
+
+pub sum-mono : (n : ℕ) (f g : ℕ → ℕ) → ((i : ℕ) → i < n → f i ≤ g i) → sumBelow n f ≤ sumBelow n g
+unfolding sumBelow
+sum-mono zero f g h = omega arith
+sum-mono (suc n) f g h = omega (arith, sum-mono n f g (λ i l. h i (omega arith)), h n (omega arith))
+
+pub sum-ext : (n : ℕ) (f g : ℕ → ℕ) → ((i : ℕ) → i < n → f i ≡ g i) → sumBelow n f ≡ sumBelow n g
+unfolding sumBelow
+sum-ext zero f g h = refl
+sum-ext (suc n) f g h = omega (arith, sum-ext n f g (λ i l. h i (omega arith)), h n (omega arith))
+
+-- sums that are equal, of terms in order, have equal terms
+pub sum-eq : (n : ℕ) (f g : ℕ → ℕ) → ((i : ℕ) → i < n → f i ≤ g i) → sumBelow n g ≤ sumBelow n f → (i : ℕ) → i < n → f i ≡ g i
+unfolding sumBelow
+sum-eq zero f g h e i l = omega arith
+sum-eq (suc n) f g h e i l =
+    let below : sumBelow n f ≤ sumBelow n g = sum-mono n f g (λ k kl. h k (omega arith)) in
+    let top : f n ≤ g n = h n (omega arith) in
+    by-test (eqb i n)
+    (λ q. rw (eqb-true i n q) (omega arith))
+    (λ q.
+    let ne : i ≢ n = eqb-false i n q in
+    sum-eq n f g (λ k kl. h k (omega arith)) (omega arith) i (omega arith))
+
+-- one term is raised by y
+pub sum-bump : (n : ℕ) (f g : ℕ → ℕ) (k y : ℕ) → k < n → g k ≡ f k + y → ((i : ℕ) → i < n → i ≢ k → g i ≡ f i) → sumBelow n g ≡ sumBelow n f + y
+unfolding sumBelow
+sum-bump zero f g k y l e h = omega arith
+sum-bump (suc n) f g k y l e h =
+    by-test (eqb k n)
+    (λ q.
+    let kn : k ≡ n = eqb-true k n q in
+    let e' : g n ≡ f n + y = subst (λ (z : ℕ). g z ≡ f z + y) kn e in
+    omega (arith, e', sum-ext n g f (λ i il. h i (omega arith) (omega arith))))
+    (λ q.
+    let ne : k ≢ n = eqb-false k n q in
+    omega (arith, sum-bump n f g k y (omega arith) e (λ i il d. h i (omega arith) d), h n (omega arith) (omega arith)))
+
+pub sum-const : (n m : ℕ) (f : ℕ → ℕ) → ((i : ℕ) → i < n → f i ≤ m) → sumBelow n f ≤ n * m
+unfolding sumBelow
+sum-const zero m f h = omega arith
+sum-const (suc n) m f h = omega (arith, sum-const n m f (λ i l. h i (omega arith)), h n (omega arith))

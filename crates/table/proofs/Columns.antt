@@ -1,0 +1,94 @@
+-- The field of a column stands in the first line of what is left: the end of the line holds no digit and no comma. Assumes nothing.
+use Prim.Native.Nat.{ℕ, suc, _+_, _-_, _≤_, _<_}
+use mathlib.Core.Bool.{true, false}
+use mathlib.Core.List.{List, [], _∷_, _++_}
+use mathlib.Core.Path.{_≡_, refl, sym, ap, _∙_}
+use native.Mathlib.Omega.{arith}
+use lib.ListN.{length, take, drop, getD, length-take, take-append-drop}
+use lib.Seq.{drop-length}
+use lib.Dec.{eqb}
+use borrow.Author.Tests.{eq-eqb, ne-eqb, eqb-true}
+use Rattle.laws.proofs.Tests.{by-test, and-left}
+use Rattle.laws.proofs.Lists.{rest-is}
+use Rattle.decimal.specs.declared.field.Field.{Field}
+use Rattle.decimal.specs.declared.field.Field.the-variants.{Number, NoNumber}
+use Rattle.decimal.specs.Fields.{isDigit, digitRun, fieldOf}
+use Rattle.decimal.proofs.Fields.{digit-low, field-append, field-within}
+use Rattle.table.specs.Lines.{isBreak, firstLine}
+use Rattle.table.specs.Rows.{withComma, afterComma, columnOf}
+use Rattle.table.proofs.Lines.{inside, first-take}
+
+-- ---- a text whose first line is empty begins with a CR, if with anything
+break-code : (b c : ℕ) → isBreak b c ≡ true → b ≡ 13
+unfolding isBreak
+break-code b c e = eqb-true b 13 (and-left (eqb b 13) (eqb c 10) e)
+
+run-none : (text : List ℕ) → firstLine text ≡ [] → digitRun text ≡ []
+unfolding firstLine digitRun
+run-none [] e = refl
+run-none (b ∷ []) e = absurd (omega (arith, ap length e))
+run-none (b ∷ c ∷ text) e =
+    by-test (isBreak b c)
+    (λ t. rw (break-code b c t, digit-low 13 (omega arith)))
+    (λ t. absurd (omega (arith, ap length (rw t at e))))
+
+comma-end : (text : List ℕ) → firstLine text ≡ [] → afterComma text ≡ NoNumber
+unfolding firstLine afterComma
+comma-end [] e = refl
+comma-end (b ∷ []) e = absurd (omega (arith, ap length e))
+comma-end (b ∷ c ∷ text) e =
+    by-test (isBreak b c)
+    (λ t. rw (ne-eqb b 44 (λ z. omega (arith, break-code b c t))))
+    (λ t. absurd (omega (arith, ap length (rw t at e))))
+
+-- ---- what is behind the line does not matter
+comma-append : (line rest : List ℕ) → firstLine rest ≡ [] → afterComma (line ++ rest) ≡ afterComma line
+unfolding afterComma
+comma-append [] rest e = comma-end rest e
+comma-append (b ∷ line) rest e = rw (field-append line rest (run-none rest e))
+
+column-append : (k : ℕ) (line rest : List ℕ) → firstLine rest ≡ [] → columnOf k (line ++ rest) ≡ columnOf k line
+column-append k line rest e = rw (field-append line rest (run-none rest e), comma-append line rest e)
+
+pub column-line : (k : ℕ) (text : List ℕ) → columnOf k (firstLine text) ≡ columnOf k text
+column-line k text =
+    let n = length (firstLine text) in
+    let empty : firstLine (drop n text) ≡ [] = inside n text (omega arith) .first ∙ drop-length (firstLine text) in
+    let whole : firstLine text ++ drop n text ≡ text = ap (λ (l : List ℕ). l ++ drop n text) (first-take text) ∙ take-append-drop n text in
+    sym (column-append k (firstLine text) (drop n text) empty) ∙ ap (columnOf k) whole
+
+-- ---- a column takes no more bytes than there are
+comma-within : (f : Field) (text : List ℕ) (v n : ℕ) → fieldOf text ≡ f → withComma f ≡ Number v n → n ≤ suc (length text)
+comma-within (Number w m) text v n p q = let z : m + 1 ≡ n = cc in omega (arith, field-within text w m p)
+comma-within NoNumber text v n p q = let z : _≡_ {A = ℕ} 0 1 = cc in absurd (omega arith)
+
+after-within : (text : List ℕ) (v n : ℕ) → afterComma text ≡ Number v n → n ≤ length text
+unfolding afterComma
+after-within [] v n e = let z : _≡_ {A = ℕ} 0 1 = cc in absurd (omega arith)
+after-within (b ∷ text) v n e =
+    by-test (eqb b 44)
+    (λ t. comma-within (fieldOf text) text v n refl (simp t at e))
+    (λ t. let z : _≡_ {A = ℕ} 0 1 = cc (simp t at e) in absurd (omega arith))
+
+pub column-within : (k : ℕ) (text : List ℕ) (v n : ℕ) → columnOf k text ≡ Number v n → n ≤ length text
+column-within k text v n e =
+    by-test (eqb k 0) (λ t. field-within text v n (simp t at e)) (λ t. after-within text v n (simp t at e))
+
+-- ---- as the code reads a column
+pub comma-none : (text : List ℕ) → length text ≡ 0 → afterComma text ≡ NoNumber
+unfolding afterComma
+comma-none [] e = refl
+comma-none (b ∷ text) e = absurd (omega arith)
+
+pub comma-other : (text : List ℕ) → (getD text 0 0 ≡ 44 → ⊥) → afterComma text ≡ NoNumber
+unfolding afterComma
+comma-other [] h = refl
+comma-other (b ∷ text) h = simp (ne-eqb b 44 h)
+
+comma-field : (text : List ℕ) → getD text 0 0 ≡ 44 → afterComma text ≡ withComma (fieldOf (drop 1 text))
+unfolding afterComma
+comma-field [] e = absurd (omega arith)
+comma-field (b ∷ text) e = simp (eq-eqb b 44 e)
+
+pub comma-read : (text : List ℕ) (f : Field) → getD text 0 0 ≡ 44 → f ≡ fieldOf (take (length text - 1) (drop 1 text)) → withComma f ≡ afterComma text
+comma-read text f h e = ap withComma (rw (rest-is 1 text) at e) ∙ sym (comma-field text h)

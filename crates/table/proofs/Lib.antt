@@ -1,0 +1,6 @@
+pub mod Lines
+pub mod Columns
+pub mod Rows
+pub mod Headers
+pub mod Records
+pub mod Tables

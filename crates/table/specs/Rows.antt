@@ -1,0 +1,64 @@
+-- The fields of a line. Document 01, "A job table", and number 3.
+--   columnOf      the field of a column at the start of what is left of the line; the first has no comma before it
+--   fieldsIn      so many fields more, and nothing after them
+--   rowOf         the values of a line of so many fields with single commas
+--   lineOf        the first line of a text as the reader of a line answers it
+-- Assumes nothing.
+use Prim.Native.Nat.{ℕ, zero, suc, _+_, _-_}
+use mathlib.Core.Bool.{cond}
+use mathlib.Core.List.{List, [], _∷_, _++_}
+use lib.ListN.{length, drop}
+use lib.Dec.{eqb}
+use Rattle.laws.specs.Places.{padded}
+use Rattle.decimal.specs.declared.field.Field.{Field}
+use Rattle.decimal.specs.declared.field.Field.the-variants.{Number, NoNumber}
+use Rattle.decimal.specs.Fields.{fieldOf}
+use Rattle.jobs.specs.declared.refusal.Refusal.the-variants.{MalformedLine}
+use Rattle.jobs.specs.declared.refusal.Check.the-variants.{Passed, Refused}
+use Rattle.table.specs.declared.line.Line.{Line}
+use Rattle.table.specs.Lines.{firstLine, afterLine}
+
+-- the most columns of a line
+abbrev pub maxColumns : ℕ
+maxColumns = 7
+
+-- a field with one byte more in front
+abbrev pub withComma : Field → Field
+withComma (Number value length) = Number value (length + 1)
+withComma NoNumber = NoNumber
+
+-- the field after a comma, 44, and with it
+unfoldable pub afterComma : List ℕ → Field
+afterComma [] = NoNumber
+afterComma (b ∷ text) = cond (eqb b 44) (withComma (fieldOf text)) NoNumber
+
+abbrev pub columnOf : ℕ → List ℕ → Field
+columnOf k text = cond (eqb k 0) (fieldOf text) (afterComma text)
+
+-- the values of a line's fields, or none where it is not so many fields
+pub data Row : Type 0 where
+  row : List ℕ → Row
+  noRow : Row
+
+abbrev pub thenField : Field → (ℕ → ℕ → Row) → Row
+thenField (Number value length) rest = rest value length
+thenField NoNumber rest = noRow
+
+unfoldable pub fieldsIn : ℕ → List ℕ → List ℕ → Row
+fieldsIn zero before [] = row before
+fieldsIn zero before (b ∷ text) = noRow
+fieldsIn (suc k) before text =
+    thenField (columnOf (length before) text) (λ value n. fieldsIn k (before ++ (value ∷ [])) (drop n text))
+
+abbrev pub rowOf : ℕ → List ℕ → Row
+rowOf columns line = fieldsIn columns [] line
+
+abbrev pub malformedLine : Line
+malformedLine = record { check = Refused MalformedLine; values = padded maxColumns 0 []; length = 0 }
+
+abbrev pub lineWith : Row → ℕ → Line
+lineWith (row values) n = record { check = Passed; values = padded maxColumns 0 values; length = n }
+lineWith noRow n = malformedLine
+
+unfoldable pub lineOf : ℕ → List ℕ → Line
+lineOf columns text = lineWith (rowOf columns (firstLine text)) (length text - length (afterLine text))

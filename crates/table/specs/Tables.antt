@@ -1,0 +1,87 @@
+-- A whole job table. Document 01, "A job table", and numbers 1 to 7.
+--   header        the first line
+--   maxText       the greatest length of a text
+--   jobOf         the job that a record's values describe
+--   recordsFrom   3 to 6 line by line, the first bad line deciding, then 7
+--   tableOf       the answer to reading a text: its jobs, or the refusal with no jobs
+-- Assumes nothing.
+use Prim.Native.Nat.{ℕ, _-_}
+use mathlib.Core.Bool.{Bool, true, false, cond}
+use mathlib.Core.List.{List, [], _∷_, _++_}
+use lib.ListN.{length, getD}
+use lib.Dec.{leb, eqb}
+use Rattle.laws.specs.Places.{lastOf}
+use Rattle.laws.specs.Text.{ascii}
+use Rattle.jobs.specs.declared.job.Job.{Job}
+use Rattle.jobs.specs.declared.refusal.Refusal.{Refusal}
+use Rattle.jobs.specs.declared.refusal.Refusal.the-variants.{TextTooLong, NotHeader, MalformedLine}
+use Rattle.jobs.specs.declared.refusal.Check.{Check}
+use Rattle.jobs.specs.declared.refusal.Check.the-variants.{Passed, Refused}
+use Rattle.jobs.specs.Jobs.{noJob, setOf}
+use Rattle.jobs.specs.Records.{recordCheck}
+use Rattle.jobs.specs.Checks.{anyRecord}
+use Rattle.table.specs.declared.line.End.{End}
+use Rattle.table.specs.declared.line.End.the-variants.{Here, Elsewhere}
+use Rattle.table.specs.declared.reading.Reading.{Reading}
+use Rattle.table.specs.Lines.{firstLine, afterLine, linesOf}
+use Rattle.table.specs.Rows.{maxColumns, Row, row, noRow, rowOf}
+
+abbrev pub header : List ℕ
+header = ascii "chain,job,release,priority,least,most,deadline"
+
+abbrev pub maxText : ℕ
+maxText = 4096
+
+abbrev pub jobOf : List ℕ → Job
+jobOf values =
+    record {
+      chain = getD values 0 0;
+      job = getD values 1 0;
+      release = getD values 2 0;
+      priority = getD values 3 0;
+      least = getD values 4 0;
+      most = getD values 5 0;
+      deadline = getD values 6 0;
+    }
+
+-- a refused table has no jobs
+abbrev pub refusedWith : Refusal → Reading
+refusedWith refusal = record { check = Refused refusal; set = setOf [] }
+
+abbrev pub readWith : Check → List Job → Reading
+readWith Passed js = record { check = Passed; set = setOf js }
+readWith (Refused refusal) js = refusedWith refusal
+
+-- what follows a line that is a record
+abbrev pub thenRow : Row → (Job → Reading) → Reading
+thenRow (row values) rest = rest (jobOf values)
+thenRow noRow rest = refusedWith MalformedLine
+
+-- what follows a record's check
+abbrev pub thenCheck : Check → Reading → Reading
+thenCheck Passed rest = rest
+thenCheck (Refused refusal) rest = refusedWith refusal
+
+unfoldable pub recordsFrom : List Job → List (List ℕ) → Reading
+recordsFrom before [] = readWith (anyRecord before) before
+recordsFrom before (line ∷ lines) =
+    thenRow (rowOf maxColumns line)
+    (λ j. let rest = recordsFrom (before ++ (j ∷ [])) lines in thenCheck (recordCheck (length before) (lastOf noJob before) j) rest)
+
+-- whether two texts are the same
+unfoldable pub same : List ℕ → List ℕ → Bool
+same [] [] = true
+same [] (b ∷ text) = false
+same (a ∷ line) [] = false
+same (a ∷ line) (b ∷ text) = cond (eqb a b) (same line text) false
+
+abbrev pub underHeader : List (List ℕ) → Reading
+underHeader [] = refusedWith NotHeader
+underHeader (line ∷ lines) = cond (same line header) (recordsFrom [] lines) (refusedWith NotHeader)
+
+unfoldable pub tableOf : List ℕ → Reading
+tableOf text = cond (leb (length text) maxText) (underHeader (linesOf text)) (refusedWith TextTooLong)
+
+-- how many bytes the first line takes with its end, where it is the header
+unfoldable pub headerEnd : List ℕ → End
+headerEnd text = cond (same (firstLine text) header) (Here (length text - length (afterLine text))) Elsewhere

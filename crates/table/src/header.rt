@@ -1,0 +1,41 @@
+// The first line of a table.
+ghost use mathlib.Core.Path.{_≡_};
+ghost use Rattle.table.specs.Lines.{startsWith};
+ghost use Rattle.table.specs.Tables.{headerEnd};
+use crate::line::End;
+use crate::line::read_end;
+
+const HEADER: [u8; 46] = *b"chain,job,release,priority,least,most,deadline";
+
+// Whether a text starts with these bytes.
+fn starts_with(text: &[u8], prefix: &[u8]) -> bool
+    ensures { λ r. ⌜ r ≡ startsWith (now (prefix .entry)) (now (text .entry)) ⌝ }
+{
+    let mut i: usize = 0;
+    while i < prefix.len() {
+        if text.len() <= i {
+            return false;
+        }
+        if text[i] != prefix[i] {
+            return false;
+        }
+        i += 1;
+    }
+    true
+}
+
+// Whether the first line is the header, and how many bytes it takes with its end.
+pub fn read_header(text: &[u8]) -> End
+    ensures { λ r. ⌜ r ≡ headerEnd (now (text .entry)) ⌝ }
+{
+    let header = HEADER;
+    if !starts_with(text, &header) {
+        return End::Elsewhere;
+    }
+    let End::Here { length } = read_end(&text[header.len()..]) else {
+        return End::Elsewhere;
+    };
+    End::Here {
+        length: header.len() + length,
+    }
+}

@@ -1,0 +1,103 @@
+// One line of a table after the first: fields with single commas.
+ghost use mathlib.Core.Path.{_≡_};
+ghost use Prim.Native.Nat.{_≤_};
+ghost use Rattle.table.specs.Lines.{endOf};
+ghost use Rattle.table.specs.Rows.{maxColumns, columnOf, malformedLine, lineOf};
+use decimal::field::Field;
+use decimal::field::read_field;
+use jobs::refusal::Check;
+use jobs::refusal::Refusal;
+
+// The most columns that a line has.
+pub const MAX_COLUMNS: usize = 7;
+
+// Whether a line ends at the start of a text, and how many bytes its end takes.
+pub enum End {
+    Here { length: usize },
+    Elsewhere,
+}
+
+// The values of a line's fields, and how many bytes the line takes with its end.
+pub struct Line {
+    pub check: Check,
+    pub values: [u64; MAX_COLUMNS],
+    pub length: usize,
+}
+
+// The field of column k at the start of rest, with the comma before it, which the first column lacks.
+fn read_column(rest: &[u8], k: usize) -> Field
+    ensures { λ r. ⌜ r ≡ columnOf k (now (rest .entry)) ⌝ }
+{
+    if k == 0 {
+        return read_field(rest);
+    }
+    if rest.len() == 0 {
+        return Field::NoNumber;
+    }
+    if rest[0] != b',' {
+        return Field::NoNumber;
+    }
+    let Field::Number { value, length } = read_field(&rest[1..]) else {
+        return Field::NoNumber;
+    };
+    Field::Number {
+        value,
+        length: length + 1,
+    }
+}
+
+// A line ends at the end of the text, and before a CR LF.
+pub fn read_end(rest: &[u8]) -> End
+    ensures { λ r. ⌜ r ≡ endOf (now (rest .entry)) ⌝ }
+{
+    if rest.len() == 0 {
+        return End::Here { length: 0 };
+    }
+    if rest.len() < 2 {
+        return End::Elsewhere;
+    }
+    if rest[0] != b'\r' {
+        return End::Elsewhere;
+    }
+    if rest[1] != b'\n' {
+        return End::Elsewhere;
+    }
+    End::Here { length: 2 }
+}
+
+// What is answered of a line that is not so many fields.
+fn malformed() -> Line
+    ensures { λ r. ⌜ r ≡ malformedLine ⌝ }
+{
+    Line {
+        check: Check::Refused(Refusal::MalformedLine),
+        values: [0u64; MAX_COLUMNS],
+        length: 0,
+    }
+}
+
+// The first line of rest, where it is so many fields; each is read from where the last one ended.
+pub(crate) fn read_line(rest: &[u8], columns: usize) -> Line
+    requires { ⌜ columns ≤ maxColumns ⌝ }
+    ensures { λ r. ⌜ r ≡ lineOf columns (now (rest .entry)) ⌝ }
+{
+    let mut values = [0u64; MAX_COLUMNS];
+    let mut at: usize = 0;
+    let mut k: usize = 0;
+    while k < columns {
+        let Field::Number { value, length } = read_column(&rest[at..], k) else {
+            return malformed();
+        };
+        values[k] = value;
+        at += length;
+        k += 1;
+    }
+    let End::Here { length } = read_end(&rest[at..]) else {
+        return malformed();
+    };
+    Line {
+        check: Check::Passed,
+        values,
+        length: at + length,
+    }
+}
