@@ -28,7 +28,7 @@ pub fn read_field(rest: &[u8]) -> Field
         if ends_number(value, length) {
             return Field::NoNumber;
         }
-        value = value * 10 + (byte - 48) as u64;
+        value = value * 10 + (byte - b'0') as u64;
         length += 1;
     }
     after_digits(value, length)
@@ -38,10 +38,10 @@ pub fn read_field(rest: &[u8]) -> Field
 fn is_digit(byte: u8) -> bool
     ensures { λ r. ⌜ r ≡ isDigit byte ⌝ }
 {
-    if byte < 48 {
+    if byte < b'0' {
         return false;
     }
-    byte <= 57
+    byte <= b'9'
 }
 
 // Whether no further digit may follow length digits of this value: they are the most there can be, or a zero.

@@ -22,7 +22,7 @@ pub fn write_signed(value: i64, rest: &mut [u8]) -> usize
         if count == 0 {
             return 0;
         }
-        rest[0] = 45;
+        rest[0] = b'-';
         return count + 1;
     }
     write_unsigned(size, rest)

@@ -30,7 +30,7 @@ fn put_digits(value: u64, count: usize, rest: &mut [u8])
     while 0 < place {
         let tens = left / 10;
         place -= 1;
-        rest[place] = 48 + (left - tens * 10) as u8;
+        rest[place] = b'0' + (left - tens * 10) as u8;
         left = tens;
     }
 }

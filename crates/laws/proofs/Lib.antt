@@ -1,5 +1,6 @@
 pub mod Tests
 pub mod Sums
+pub mod Greatest
 pub mod Tabulate
 pub mod Lists
 pub mod Buffers

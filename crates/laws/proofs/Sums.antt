@@ -1,12 +1,12 @@
--- Sums over places: monotone, equal term by term, one term raised, and limited. Assumes nothing.
+-- Sums over places: monotone, equal term by term, one term raised, limited, and counts of places. Assumes nothing.
 use Prim.Native.Nat.{ℕ, zero, suc, _+_, _*_, _≤_, _<_}
-use mathlib.Core.Path.{_≡_, refl, subst}
+use mathlib.Core.Path.{_≡_, refl, ap, subst}
 use mathlib.Core.Logic.{_≢_}
 use native.Mathlib.Omega.{arith}
 use lib.Dec.{eqb}
 use borrow.Author.Tests.{eqb-true, eqb-false}
 use Rattle.laws.specs.Places.{sumBelow}
-use Rattle.laws.proofs.Tests.{by-test}
+use Rattle.laws.proofs.Tests.{by-test, by-last}
 
 pub sum-mono : (n : ℕ) (f g : ℕ → ℕ) → ((i : ℕ) → i < n → f i ≤ g i) → sumBelow n f ≤ sumBelow n g
 unfolding sumBelow
@@ -49,3 +49,32 @@ pub sum-const : (n m : ℕ) (f : ℕ → ℕ) → ((i : ℕ) → i < n → f i �
 unfolding sumBelow
 sum-const zero m f h = omega arith
 sum-const (suc n) m f h = omega (arith, sum-const n m f (λ i l. h i (omega arith)), h n (omega arith))
+
+pub sum-zero : (n : ℕ) (f : ℕ → ℕ) → ((i : ℕ) → i < n → f i ≡ 0) → sumBelow n f ≡ 0
+unfolding sumBelow
+sum-zero zero f h = refl
+sum-zero (suc n) f h = omega (arith, sum-zero n f (λ i l. h i (omega arith)), h n (omega arith))
+
+pub sum-one : (n : ℕ) (f : ℕ → ℕ) (i : ℕ) → i < n → f i ≤ sumBelow n f
+unfolding sumBelow
+sum-one zero f i l = absurd (omega arith)
+sum-one (suc n) f i l = by-last i n l (λ e. rw e (omega arith)) (λ il. omega (arith, sum-one n f i il))
+
+pub sum-two : (n : ℕ) (f : ℕ → ℕ) (i k : ℕ) → i < k → k < n → f i + f k ≤ sumBelow n f
+unfolding sumBelow
+sum-two zero f i k il kl = absurd (omega arith)
+sum-two (suc n) f i k il kl =
+    by-last k n kl
+    (λ e. omega (arith, sum-one n f i (omega arith), ap f e))
+    (λ l. omega (arith, sum-two n f i k il l))
+
+-- a count of places that leaves one out
+pub sum-skip : (n : ℕ) (f : ℕ → ℕ) (j : ℕ) → j < n → f j ≡ 0 → ((i : ℕ) → i < n → f i ≤ 1) → sumBelow n f + 1 ≤ n
+unfolding sumBelow
+sum-skip zero f j l z h = absurd (omega arith)
+sum-skip (suc n) f j l z h =
+    by-last j n l
+    (λ e.
+    let last : f n ≡ 0 = subst (λ (i : ℕ). f i ≡ 0) e z in
+    omega (arith, sum-const n 1 f (λ i il. h i (omega arith))))
+    (λ jl. omega (arith, sum-skip n f j jl z (λ i il. h i (omega arith)), h n (omega arith)))

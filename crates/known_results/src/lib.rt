@@ -1,0 +1,1 @@
+// The tables of document 01 with known results: specs/ and proofs/ alone.

@@ -1,0 +1,31 @@
+-- Overlap as two orders, and the bounds that decide it. Assumes nothing.
+use Prim.Native.Nat.{ℕ, _≤_, _<_}
+use mathlib.Core.Path.{_≡_}
+use mathlib.Core.Bool.{true}
+use mathlib.Core.List.{List}
+use native.Mathlib.Omega.{arith}
+use lib.Dec.{ltb}
+use borrow.Author.Tests.{ltb-true, lt-ltb, le-ltb}
+use Rattle.laws.proofs.Tests.{by-order, both-ways, and-right}
+use Rattle.theory.specs.Table.{Table}
+use Rattle.theory.specs.Bounds.{boundAt}
+use Rattle.theory.specs.Rounds.{overlap}
+
+module _ (t : Table) (b : List ℕ) (k j u : ℕ) where
+  pub overlap-left : overlap t b k j u ≡ true → t .earliest k < boundAt b u
+  unfolding overlap
+  overlap-left e = by-order (boundAt b u) (t .earliest k) (λ low. absurd (both-ways e (rw (le-ltb (t .earliest k))))) (λ l. l)
+
+  pub overlap-right : overlap t b k j u ≡ true → t .earliest u < boundAt b j
+  unfolding overlap
+  overlap-right e = ltb-true (t .earliest u) (boundAt b j) (and-right (ltb (t .earliest k) (boundAt b u)) _ e)
+
+  pub overlap-by : t .earliest k < boundAt b u → t .earliest u < boundAt b j → overlap t b k j u ≡ true
+  unfolding overlap
+  overlap-by l m = rw (lt-ltb (t .earliest k) (boundAt b u), lt-ltb)
+
+-- what overlaps in one table overlaps in another where the releases are the same and the bounds no lower
+pub overlap-carry : (s t : Table) (a b : List ℕ) (k j u k' j' u' : ℕ) → s .earliest k ≡ t .earliest k' → s .earliest u ≡ t .earliest u'
+    → boundAt a u ≤ boundAt b u' → boundAt a j ≤ boundAt b j' → overlap s a k j u ≡ true → overlap t b k' j' u' ≡ true
+overlap-carry s t a b k j u k' j' u' ek eu lu lj e =
+    overlap-by t b k' j' u' (omega (arith, overlap-left s a k j u e)) (omega (arith, overlap-right s a k j u e))

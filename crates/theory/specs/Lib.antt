@@ -1,0 +1,9 @@
+pub mod Table
+pub mod Releases
+pub mod Interference
+pub mod Bounds
+pub mod Rounds
+pub mod Verdicts
+pub mod Runs
+pub mod Parts
+pub mod Claims

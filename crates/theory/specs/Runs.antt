@@ -1,0 +1,89 @@
+-- The runs of demand 3. Document 01, "The runs of demand 3". Nothing here is taken from the machine or its state.
+--   Entry                 one tick of a run: a job of the table, by its place, or idle
+--   work                  how many of the entries before n name a job
+--   Complete              a job's work at n is its running time
+--   PredecessorComplete   where a job has a predecessor, that is complete
+--   Ready, LegalEntry     what may run at n, and what must
+--   Times, Releases       running times and releases in their ranges
+--   Run                   a legal run with running times and releases in range
+--   CompleteBy            complete no later than a bound
+-- Assumes nothing.
+use Prim.Native.Nat.{ℕ, zero, suc, _+_, _≤_, _<_}
+use mathlib.Core.Path.{_≡_}
+use mathlib.Core.Bool.{Bool, false, cond}
+use mathlib.Core.List.{List}
+use lib.Dec.{eqb}
+use lib.ListN.{length, getD}
+use Rattle.theory.specs.Table.{Table}
+
+-- An entry is a job of the table or idle.
+pub data Entry : Type 0 where
+  idle : Entry
+  runs : ℕ → Entry
+
+-- Whether an entry names a job.
+unfoldable pub names : Entry → ℕ → Bool
+names idle u = false
+names (runs v) u = eqb v u
+
+-- A run has one entry for each tick 0, 1, 2 and so on.
+unfoldable pub entryAt : List Entry → ℕ → Entry
+entryAt run n = getD run n idle
+
+-- A job's work at n is the number of entries before n that name it.
+unfoldable pub work : List Entry → ℕ → ℕ → ℕ
+work run u zero = 0
+work run u (suc n) = work run u n + cond (names (entryAt run n) u) 1 0
+
+-- With the run goes one running time for each job.
+unfoldable pub timeAt : List ℕ → ℕ → ℕ
+timeAt times u = getD times u 0
+
+-- A job is complete at n when its work at n is its running time.
+abbrev pub Complete : List ℕ → List Entry → ℕ → ℕ → Type 0
+Complete times run u n = work run u n ≡ timeAt times u
+
+-- Its predecessor, where it has one, is complete.
+abbrev pub PredecessorComplete : Table → List ℕ → List Entry → ℕ → ℕ → Type 0
+PredecessorComplete t times run zero n = Unit {0}
+PredecessorComplete t times run (suc v) n = t .chain v ≡ t .chain (suc v) → Complete times run v n
+
+-- It is ready at n if its release is at most n, it is not complete, and its predecessor, where it has one, is complete.
+pub record Ready (t : Table) (release : ℕ → ℕ) (times : List ℕ) (run : List Entry) (u n : ℕ) : Type 0 where
+  pub released : release u ≤ n
+  pub unfinished : Complete times run u n → ⊥
+  pub predecessor : PredecessorComplete t times run u n
+
+-- An entry is a job ready at its tick, with no job of higher priority ready, or it is idle and no job is ready.
+abbrev pub LegalEntry : Table → (ℕ → ℕ) → List ℕ → List Entry → ℕ → Entry → Type 0
+LegalEntry t release times run n idle = (v : ℕ) → v < t .count → Ready t release times run v n → ⊥
+LegalEntry t release times run n (runs u) =
+    (u < t .count)
+    × Ready t release times run u n
+    × ((v : ℕ) → v < t .count → Ready t release times run v n → t .urgency v ≤ t .urgency u)
+
+-- So is each entry of the run.
+abbrev pub Legal : Table → (ℕ → ℕ) → List ℕ → List Entry → Type 0
+Legal t release times run = (n : ℕ) → n < length run → LegalEntry t release times run n (entryAt run n)
+
+-- One running time for each job, from its least to its most.
+pub record Times (t : Table) (times : List ℕ) : Type 0 where
+  pub each : length times ≡ t .count
+  pub low : (u : ℕ) → u < t .count → t .least u ≤ timeAt times u
+  pub high : (u : ℕ) → u < t .count → timeAt times u ≤ t .most u
+
+-- One release for each job, from its earliest to its latest: the effective release, where one is given.
+pub record Releases (t : Table) (release : ℕ → ℕ) : Type 0 where
+  pub early : (u : ℕ) → u < t .count → t .earliest u ≤ release u
+  pub late : (u : ℕ) → u < t .count → release u ≤ t .latest u
+
+-- A run of demand 3; the pick among equals is free at every tick.
+pub record Run (t : Table) (release : ℕ → ℕ) (times : List ℕ) (run : List Entry) : Type 0 where
+  pub releases : Releases t release
+  pub inRange : Times t times
+  pub legal : Legal t release times run
+
+-- A job is complete no later than a bound B if in every run of at least B entries it is complete at B.
+abbrev pub CompleteBy : Table → ℕ → ℕ → Type 0
+CompleteBy t j bound =
+    (release : ℕ → ℕ) (times : List ℕ) (run : List Entry) → Run t release times run → bound ≤ length run → Complete times run j bound
