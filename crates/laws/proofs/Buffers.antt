@@ -1,12 +1,13 @@
 -- Texts in a buffer: what a writer of the rest of a buffer leaves in the whole, and one text after another.
 -- Nothing here depends on what the texts say. Assumes nothing.
-use Prim.Native.Nat.{ℕ, _+_, _-_, _≤_}
-use mathlib.Core.Path.{_≡_, sym, ap, _∙_}
-use mathlib.Core.List.{List, [], _++_, append-assoc, append-nil}
+use Prim.Native.Nat.{ℕ, suc, _+_, _-_, _≤_, _<_}
+use mathlib.Core.Path.{_≡_, refl, sym, ap, _∙_}
+use mathlib.Core.List.{List, [], _∷_, _++_, append-assoc, append-nil}
+use native.Mathlib.Numerals.{add-one}
 use native.Mathlib.Omega.{arith}
 use native.Mathlib.Nat.{add-assoc, add-zero}
-use lib.ListN.{length, take, drop, length-append, length-drop, take-append-drop}
-use lib.Seq.{take-at, drop-drop, drop-length, drop-append-add, length-take-le}
+use lib.ListN.{length, take, drop, set, length-append, length-drop, take-append-drop}
+use lib.Seq.{set-split, take-at, drop-drop, drop-length, drop-append-add, length-take-le}
 use borrow.Rule.Slice.PartMut.{putMid, postOf, post-is}
 use Rattle.laws.specs.Buffers.{patched}
 use Rattle.laws.proofs.Lists.{rest-is}
@@ -74,3 +75,11 @@ wrote-length {before = before} {text = text} {start = start} w h = ap length (w 
 -- a further text fits where the whole does
 pub wrote-room : {A : Type 0} {before after text : List A} (more : List A) {start next : ℕ} → Wrote before start text after next → start + length text + length more ≤ length before → next + length more ≤ length after
 wrote-room more w h = omega (arith, w .place, wrote-length w (omega arith))
+
+-- one element stored is a text of one
+pub set-patched : {A : Type 0} (b : List A) (at : ℕ) (x : A) → at < length b → set b at x ≡ patched b at (x ∷ [])
+unfolding patched
+set-patched b at x h = set-split b at x h ∙ simp (append-assoc, add-one)
+
+pub wrote-one : {A : Type 0} {before between text : List A} (x : A) {start at : ℕ} → Wrote before start text between at → at < length between → Wrote before start (text ++ (x ∷ [])) (set between at x) (at + 1)
+wrote-one {between = between} x {at = at} w h = wrote-more (x ∷ []) w (refl, set-patched between at x h)

@@ -1,0 +1,6 @@
+pub mod ColumnTexts
+pub mod ColumnWrites
+pub mod Bytes
+pub mod Wholes
+pub mod RefusedText
+pub mod RowTexts

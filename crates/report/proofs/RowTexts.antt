@@ -1,0 +1,40 @@
+-- The pieces of a row, and how many bytes they take. Assumes nothing.
+use Prim.Native.Nat.{ℕ, suc, _+_, _≤_, _<_}
+use mathlib.Core.List.{List, [], _∷_, _++_, append-assoc}
+use mathlib.Core.Path.{_≡_, refl, sym, ap, _∙_}
+use native.Mathlib.Omega.{arith}
+use lib.IntN.{ℤ, pos, negsuc}
+use lib.ListN.{length, length-append}
+use mir.Syntax.{w64}
+use mir.Val.{SFits}
+use Rattle.decimal.specs.Signed.{signed}
+use Rattle.decimal.proofs.Values.{length-decimal}
+use Rattle.jobs.specs.declared.job.Job.{Job}
+use Rattle.report.specs.Columns.{columnsText}
+use Rattle.report.specs.Refusals.{lineEnd}
+use Rattle.report.specs.Rows.{slackText, boundsRow}
+use Rattle.report.proofs.ColumnTexts.{word-digits}
+
+-- an integer of 64 bits has at most 19 digits, and takes at most 21 bytes
+pub signed-within : (z : ℤ) → SFits w64 z → length (signed z) ≤ 21
+unfolding signed
+signed-within (pos n) f = omega (arith, length-decimal n, word-digits n (omega (arith, f .sfits)))
+signed-within (negsuc n) f = omega (arith, length-decimal (suc n), word-digits (suc n) (omega (arith, f .sfits)))
+
+pub slack-length : (z : ℤ) → length (slackText z) ≡ length (signed z) + 1
+unfolding slackText
+slack-length z = omega arith
+
+-- the columns of a row
+abbrev pub rowValues : Job → ℕ → ℕ → ℕ → List ℕ
+rowValues j ert cja itr = j .chain ∷ j .job ∷ ert ∷ cja ∷ itr ∷ []
+
+pub row-pieces : (j : Job) (ert cja itr : ℕ) (slack : ℤ) → (columnsText (rowValues j ert cja itr) ++ slackText slack) ++ lineEnd ≡ boundsRow j ert cja itr slack
+unfolding boundsRow
+row-pieces j ert cja itr slack = simp append-assoc
+
+pub row-length : (j : Job) (ert cja itr : ℕ) (slack : ℤ) → length (boundsRow j ert cja itr slack) ≡ length (columnsText (rowValues j ert cja itr)) + length (signed slack) + 3
+row-length j ert cja itr slack =
+    let columns = columnsText (rowValues j ert cja itr) in
+    ap length (sym (row-pieces j ert cja itr slack))
+    ∙ omega (arith, length-append (columns ++ slackText slack) lineEnd, length-append columns (slackText slack), slack-length slack)

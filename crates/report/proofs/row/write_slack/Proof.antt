@@ -1,0 +1,62 @@
+-- `write_slack` leaves a comma and the slack at the place. Assumes nothing.
+use Prim.Native.Nat.{_+_, _-_, _≤_}
+use native.Mathlib.Omega.{arith}
+use lib.ListN.{length, set, length-set}
+use mir.Facts.{toZ-ofZ}
+use borrow.Author.Needs.{needs}
+use borrow.Rule.Slice.PartMut.{putMid}
+use Rattle.laws.proofs.Buffers.{Wrote, wrote-length}
+use Rattle.decimal.specs.Signed.{signed}
+use Rattle.report.specs.Rows.{slackText}
+use Rattle.report.proofs.ColumnWrites.{comma-written}
+use Rattle.report.proofs.RowTexts.{slack-length}
+use Rattle.report.proofs.row.write_slack.Statement.{statement}
+use Rattle.report.proofs.row.write_slack.Tie as tie
+
+-- what stands in the buffer after the slack
+wrote : (c : tie.After-write-signed)
+    → Wrote (c .before .before .before .args .out .now) (c .before .before .before .args .at) (slackText (c .before .before .before .args .slack))
+    (putMid (c .before .before .before .args .at + 1) (length (set (c .before .before .before .args .out .now) (c .before .before .before .args .at) 44) - (c .before .before .before .args .at + 1)) (set (c .before .before .before .args .out .now) (c .before .before .before .args .at) 44) (c .write-signed .last .1 .0)) (c .before .before .before .args .at + 1 + c .write-signed .result)
+unfolding slackText
+wrote c = comma-written (signed (c .before .before .before .args .slack)) (c .before .before .before .args .out .now) (c .before .before .before .args .at) (c .before .before .before .pre) (rw (toZ-ofZ (c .before .before .before .fits .slack)) at (c .write-signed .ensures))
+
+slice-write-out : tie.Need-slice-write-out
+slice-write-out c = omega (arith, c .before .pre, slack-length (c .before .args .slack))
+
+add-next : tie.Need-add-next
+add-next c = search needs
+
+sub-write-signed : tie.Need-sub-write-signed
+sub-write-signed c = omega (arith, c .before .pre, slack-length (c .before .args .slack), length-set (c .before .args .out .now) (c .before .args .at) 44)
+
+part-write-signed-start : tie.Need-part-write-signed-start
+part-write-signed-start c = omega (arith, c .before .pre, slack-length (c .before .args .slack), length-set (c .before .args .out .now) (c .before .args .at) 44)
+
+part-write-signed-end : tie.Need-part-write-signed-end
+part-write-signed-end c = search needs
+
+write-signed-requires : tie.Need-write-signed-requires
+write-signed-requires c κs = search needs
+
+add-result : tie.Need-add-result
+add-result c = let w = wrote (c .before .before) .place in let h = c .before .before .before .before .before .pre in search (needs, w, h)
+
+same-length : tie.Need-same-length
+same-length c = let h = wrote-length (wrote (c .before .before)) (c .before .before .before .before .before .pre) in search (needs, h)
+
+returns : tie.Need-returns
+returns c = (wrote (c .before .before) .place, wrote (c .before .before) .list)
+
+pub write-slack-spec : {M : Type 1} → statement M
+write-slack-spec =
+    tie.close
+    (tie.spec
+    slice-write-out
+    add-next
+    sub-write-signed
+    part-write-signed-start
+    part-write-signed-end
+    write-signed-requires
+    add-result
+    same-length
+    returns)

@@ -1,0 +1,73 @@
+// Numbers with single commas between them, and bytes as they are, at a place of a buffer that has room for them.
+ghost use mathlib.Core.Path.{_≡_};
+ghost use Prim.Native.Nat.{_+_, _*_, _≤_};
+ghost use lib.ListN.{length};
+ghost use Rattle.laws.specs.Buffers.{patched};
+ghost use Rattle.report.specs.Columns.{mostColumns, columnText, columnsText};
+use decimal::count::digit_count;
+use decimal::unsigned::write_unsigned;
+
+// How many bytes column k takes.
+fn column_length(k: usize, value: u64) -> usize
+    ensures { λ r. ⌜ r ≡ length (columnText k value) ⌝ }
+{
+    let count = digit_count(value);
+    if k == 0 {
+        return count;
+    }
+    count + 1
+}
+
+// Writes column k, and answers the place after it.
+pub(crate) fn write_column(k: usize, value: u64, out: &mut [u8], at: usize) -> usize
+    requires { ⌜ at + length (columnText k value) ≤ length (now out) ⌝ }
+    ensures { λ r. ⌜ (r ≡ at + length (columnText k value)) × (now (out .exit) ≡ patched (now (out .entry)) at (columnText k value)) ⌝ }
+{
+    if k == 0 {
+        return at + write_unsigned(value, &mut out[at..]);
+    }
+    out[at] = b',';
+    let next = at + 1;
+    next + write_unsigned(value, &mut out[next..])
+}
+
+// How many bytes the columns take; a column has a comma and at most 20 digits.
+pub(crate) fn columns_length(values: &[u64]) -> usize
+    requires { ⌜ length (now values) ≤ mostColumns ⌝ }
+    ensures { λ r. ⌜ (r ≡ length (columnsText (now (values .entry)))) × (r ≤ 21 * length (now (values .entry))) ⌝ }
+{
+    let mut sum: usize = 0;
+    let mut k: usize = 0;
+    while k < values.len() {
+        sum += column_length(k, values[k]);
+        k += 1;
+    }
+    sum
+}
+
+// Writes the columns, and answers the place after them.
+pub(crate) fn write_columns(values: &[u64], out: &mut [u8], at: usize) -> usize
+    requires { ⌜ at + length (columnsText (now values)) ≤ length (now out) ⌝ }
+    ensures { λ r. ⌜ (r ≡ at + length (columnsText (now (values .entry)))) × (now (out .exit) ≡ patched (now (out .entry)) at (columnsText (now (values .entry)))) ⌝ }
+{
+    let mut next = at;
+    let mut k: usize = 0;
+    while k < values.len() {
+        next = write_column(k, values[k], out, next);
+        k += 1;
+    }
+    next
+}
+
+// Writes bytes as they are, and answers the place after them.
+pub(crate) fn write_bytes(bytes: &[u8], out: &mut [u8], at: usize) -> usize
+    requires { ⌜ at + length (now bytes) ≤ length (now out) ⌝ }
+    ensures { λ r. ⌜ (r ≡ at + length (now (bytes .entry))) × (now (out .exit) ≡ patched (now (out .entry)) at (now (bytes .entry))) ⌝ }
+{
+    let mut i: usize = 0;
+    while i < bytes.len() {
+        out[at + i] = bytes[i];
+        i += 1;
+    }
+    at + i
+}

@@ -1,0 +1,4 @@
+// The texts that the programs print, written into a lent buffer.
+pub mod columns;
+pub mod refused;
+pub mod row;

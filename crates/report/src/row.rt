@@ -1,0 +1,49 @@
+// A row of the bounds text.
+ghost use mathlib.Core.Path.{_≡_};
+ghost use Prim.Native.Nat.{_+_, _≤_};
+ghost use lib.ListN.{length};
+ghost use Rattle.laws.specs.Buffers.{patched};
+ghost use Rattle.report.specs.Rows.{slackText, boundsRow};
+use crate::columns::columns_length;
+use crate::columns::write_bytes;
+use crate::columns::write_columns;
+use decimal::signed::signed_length;
+use decimal::signed::write_signed;
+use jobs::job::Job;
+
+// How many bytes the row takes.
+pub(crate) fn row_length(job: Job, ert: u64, cja: u64, itr: u64, slack: i64) -> usize
+    ensures { λ r. ⌜ r ≡ length (boundsRow job ert cja itr slack) ⌝ }
+{
+    let values = [job.chain, job.job, ert, cja, itr];
+    columns_length(&values) + signed_length(slack) + 3
+}
+
+// Writes a comma and the slack, and answers the place after them.
+fn write_slack(slack: i64, out: &mut [u8], at: usize) -> usize
+    requires { ⌜ at + length (slackText slack) ≤ length (now out) ⌝ }
+    ensures { λ r. ⌜ (r ≡ at + length (slackText slack)) × (now (out .exit) ≡ patched (now (out .entry)) at (slackText slack)) ⌝ }
+{
+    out[at] = b',';
+    let next = at + 1;
+    next + write_signed(slack, &mut out[next..])
+}
+
+// Writes the row, and answers the place after it.
+pub(crate) fn write_row(
+    job: Job,
+    ert: u64,
+    cja: u64,
+    itr: u64,
+    slack: i64,
+    out: &mut [u8],
+    at: usize,
+) -> usize
+    requires { ⌜ at + length (boundsRow job ert cja itr slack) ≤ length (now out) ⌝ }
+    ensures { λ r. ⌜ (r ≡ at + length (boundsRow job ert cja itr slack)) × (now (out .exit) ≡ patched (now (out .entry)) at (boundsRow job ert cja itr slack)) ⌝ }
+{
+    let values = [job.chain, job.job, ert, cja, itr];
+    let after_columns = write_columns(&values, out, at);
+    let after_slack = write_slack(slack, out, after_columns);
+    write_bytes(b"\r\n", out, after_slack)
+}
