@@ -4,3 +4,4 @@ pub mod Greatest
 pub mod Tabulate
 pub mod Lists
 pub mod Buffers
+pub mod Pieces

@@ -56,14 +56,3 @@ columns-next values k h =
 
 pub columns-all : (values : List ℕ) (k : ℕ) → length values ≤ k → columnsText (take k values) ≡ columnsText values
 columns-all values k h = ap columnsText (take-all k values h)
-
--- the first columns take no more than all
-from-within : (k n : ℕ) (values : List ℕ) → length (columnsFrom k (take n values)) ≤ length (columnsFrom k values)
-unfolding columnsFrom
-from-within k zero values = omega arith
-from-within k (suc n) [] = omega arith
-from-within k (suc n) (v ∷ values) =
-    omega (arith, from-within (suc k) n values, length-append (columnText k v) (columnsFrom (suc k) (take n values)), length-append (columnText k v) (columnsFrom (suc k) values))
-
-pub columns-within : (n : ℕ) (values : List ℕ) → length (columnsText (take n values)) ≤ length (columnsText values)
-columns-within n values = from-within 0 n values

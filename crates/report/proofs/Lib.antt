@@ -4,3 +4,4 @@ pub mod Bytes
 pub mod Wholes
 pub mod RefusedText
 pub mod RowTexts
+pub mod RowsTexts

@@ -2,3 +2,4 @@
 pub mod columns;
 pub mod refused;
 pub mod row;
+pub mod rows;

@@ -11,9 +11,9 @@ use decimal::signed::signed_length;
 use decimal::signed::write_signed;
 use jobs::job::Job;
 
-// How many bytes the row takes.
+// How many bytes the row takes: five columns of at most 21, at most 21 for the slack, and 3.
 pub(crate) fn row_length(job: Job, ert: u64, cja: u64, itr: u64, slack: i64) -> usize
-    ensures { λ r. ⌜ r ≡ length (boundsRow job ert cja itr slack) ⌝ }
+    ensures { λ r. ⌜ (r ≡ length (boundsRow job ert cja itr slack)) × (r ≤ 129) ⌝ }
 {
     let values = [job.chain, job.job, ert, cja, itr];
     columns_length(&values) + signed_length(slack) + 3

@@ -5,8 +5,8 @@ use native.Mathlib.Omega.{arith}
 use lib.ListN.{length, take, getD}
 use lib.Seq.{take-all}
 use borrow.Author.Needs.{needs}
-use Rattle.laws.proofs.Buffers.{Wrote}
-use Rattle.report.proofs.Bytes.{BytesWritten, bytes-none, bytes-next, bytes-same, bytes-room, bytes-end}
+use Rattle.laws.proofs.Pieces.{pieces-same}
+use Rattle.report.proofs.Bytes.{BytesWritten, bytes-none, bytes-next, bytes-room, bytes-end}
 use Rattle.report.proofs.columns.write_bytes.Statement.{statement}
 use Rattle.report.proofs.columns.write_bytes.Tie as tie
 
@@ -41,7 +41,7 @@ add-result : tie.Need-add-result Inv-loop μ-loop
 add-result c = search needs
 
 same-length : tie.Need-same-length Inv-loop μ-loop
-same-length c = let h = bytes-same (c .before .loop .inv) in search (needs, h)
+same-length c = let h = pieces-same (c .before .loop .inv) in search (needs, h)
 
 returns : tie.Need-returns Inv-loop μ-loop
 returns c = bytes-end (c .before .loop .inv) (c .loop-test .left)

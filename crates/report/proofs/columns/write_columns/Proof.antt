@@ -2,7 +2,8 @@
 use Prim.Native.Nat.{_-_, _≤_}
 use lib.ListN.{length}
 use borrow.Author.Needs.{needs}
-use Rattle.report.proofs.ColumnWrites.{ColumnsWritten, columns-none, columns-same, columns-room, columns-more, columns-end}
+use Rattle.laws.proofs.Pieces.{pieces-same, pieces-room, pieces-more}
+use Rattle.report.proofs.ColumnWrites.{ColumnsWritten, columns-none, columns-end}
 use Rattle.report.proofs.columns.write_columns.Statement.{statement}
 use Rattle.report.proofs.columns.write_columns.Tie as tie
 
@@ -22,7 +23,7 @@ shared-slice-read-write-column : tie.Need-shared-slice-read-write-column Inv-loo
 shared-slice-read-write-column c = search needs
 
 write-column-requires : tie.Need-write-column-requires Inv-loop μ-loop
-write-column-requires c κs = columns-room (c .before .before .before .loop .inv) (c .before .before .loop-test .taken)
+write-column-requires c κs = pieces-room (c .before .before .before .loop .inv) (c .before .before .loop-test .taken)
 
 add-k : tie.Need-add-k Inv-loop μ-loop
 add-k c = search needs
@@ -31,13 +32,13 @@ loop-less : tie.Need-loop-less Inv-loop μ-loop
 loop-less c = search needs
 
 loop-again : tie.Need-loop-again Inv-loop μ-loop
-loop-again c = columns-more (c .before .before .before .before .before .before .loop .inv) (c .before .before .before .before .before .loop-test .taken) (c .before .before .write-column .ensures)
+loop-again c = pieces-more (c .before .before .before .before .before .before .loop .inv) (c .before .before .before .before .before .loop-test .taken) (c .before .before .write-column .ensures)
 
 same-length : tie.Need-same-length Inv-loop μ-loop
-same-length c = let h = columns-same (c .before .loop .inv) in search (needs, h)
+same-length c = let h = pieces-same (c .before .loop .inv) in search (needs, h)
 
 returns : tie.Need-returns Inv-loop μ-loop
-returns c = columns-end (c .before .loop .inv) (c .loop-test .left)
+returns c = columns-end _ (c .before .loop .inv) (c .loop-test .left)
 
 pub write-columns-spec : {M : Type 1} → statement M
 write-columns-spec =

@@ -34,8 +34,10 @@ add-result-2 c = let h = slack-is c in let w = slack-within c in let b = c .befo
 
 returns : tie.Need-returns
 returns c =
-    let j = c .before .before .before .args .job in
-    omega (arith, slack-is c, c .before .columns-length .ensures .0, row-length j (c .before .before .before .args .ert) (c .before .before .before .args .cja) (c .before .before .before .args .itr) (c .before .before .before .args .slack))
+    let j = c .before .before .before .args .job in (
+      omega (arith, slack-is c, c .before .columns-length .ensures .0, row-length j (c .before .before .before .args .ert) (c .before .before .before .args .cja) (c .before .before .before .args .itr) (c .before .before .before .args .slack)),
+      omega (arith, slack-is c, slack-within c, c .before .columns-length .ensures .1),
+    )
 
 pub row-length-spec : {M : Type 1} → statement M
 row-length-spec =

@@ -1,0 +1,55 @@
+// The rows of the bounds text.
+ghost use mathlib.Core.Path.{_≡_};
+ghost use Prim.Native.Nat.{_+_, _≤_};
+ghost use lib.ListN.{length};
+ghost use Rattle.laws.specs.Buffers.{patched};
+ghost use Rattle.jobs.specs.Limits.{maxJobs};
+ghost use Rattle.report.specs.Rows.{boundsRows};
+use crate::row::row_length;
+use crate::row::write_row;
+use jobs::set::JobSet;
+
+// How many bytes the rows of a set take.
+pub(crate) fn rows_length<'a>(
+    set: JobSet,
+    ert: &'a [u64; JobSet::MAX_JOBS],
+    cja: &'a [u64; JobSet::MAX_JOBS],
+    itr: &'a [u64; JobSet::MAX_JOBS],
+    slacks: &'a [i64; JobSet::MAX_JOBS],
+) -> usize
+    requires { ⌜ set .count ≤ maxJobs ⌝ }
+    ensures { λ r. ⌜ r ≡ length (boundsRows (set .jobs) (now (ert .entry)) (now (cja .entry)) (now (itr .entry)) (now (slacks .entry)) (set .count)) ⌝ }
+{
+    let count = set.count;
+    let mut sum: usize = 0;
+    let mut n: usize = 0;
+    while n < count {
+        sum += row_length(set.jobs[n], ert[n], cja[n], itr[n], slacks[n]);
+        n += 1;
+    }
+    sum
+}
+
+// Writes the rows of a set, and answers the place after them.
+pub(crate) fn write_rows<'a>(
+    set: JobSet,
+    ert: &'a [u64; JobSet::MAX_JOBS],
+    cja: &'a [u64; JobSet::MAX_JOBS],
+    itr: &'a [u64; JobSet::MAX_JOBS],
+    slacks: &'a [i64; JobSet::MAX_JOBS],
+    out: &mut [u8],
+    at: usize,
+) -> usize
+    requires { ⌜ set .count ≤ maxJobs ⌝ }
+    requires { ⌜ at + length (boundsRows (set .jobs) (now ert) (now cja) (now itr) (now slacks) (set .count)) ≤ length (now out) ⌝ }
+    ensures { λ r. ⌜ (r ≡ at + length (boundsRows (set .jobs) (now (ert .entry)) (now (cja .entry)) (now (itr .entry)) (now (slacks .entry)) (set .count))) × (now (out .exit) ≡ patched (now (out .entry)) at (boundsRows (set .jobs) (now (ert .entry)) (now (cja .entry)) (now (itr .entry)) (now (slacks .entry)) (set .count))) ⌝ }
+{
+    let count = set.count;
+    let mut next = at;
+    let mut n: usize = 0;
+    while n < count {
+        next = write_row(set.jobs[n], ert[n], cja[n], itr[n], slacks[n], out, next);
+        n += 1;
+    }
+    next
+}

@@ -1,0 +1,127 @@
+//! Tables and damaged texts from a seed.
+
+use reference::{table::HEADER, Job};
+
+#[derive(Clone, Copy)]
+pub enum Kind {
+    /// A few chains of a few jobs with small figures, so that many figures meet.
+    Small,
+    /// Releases close to each other.
+    Dense,
+    /// One to three chains with many jobs.
+    Long,
+    /// Many short chains.
+    Wide,
+    /// Figures at and near their limits.
+    Extreme,
+}
+
+impl Kind {
+    pub fn tables(self) -> usize {
+        match self {
+            Kind::Small => 1500,
+            Kind::Dense => 150,
+            Kind::Long => 40,
+            Kind::Wide => 60,
+            Kind::Extreme => 60,
+        }
+    }
+}
+
+pub struct Draw(u64);
+
+impl Draw {
+    pub fn from_seed(seed: u64) -> Draw {
+        Draw(seed)
+    }
+
+    fn next(&mut self) -> u64 {
+        self.0 = self.0.wrapping_add(0x9e37_79b9_7f4a_7c15);
+        let mut z = self.0;
+        z = (z ^ (z >> 30)).wrapping_mul(0xbf58_476d_1ce4_e5b9);
+        z = (z ^ (z >> 27)).wrapping_mul(0x94d0_49bb_1331_11eb);
+        z ^ (z >> 31)
+    }
+
+    /// A number from `low` to `high`.
+    fn range(&mut self, low: u64, high: u64) -> u64 {
+        low + self.next() % (high - low + 1)
+    }
+
+    /// A number at or near the greatest, or anywhere below it.
+    fn extreme(&mut self, low: u64, high: u64) -> u64 {
+        match self.next() % 4 {
+            0 => high,
+            1 => low,
+            2 => self.range(high.saturating_sub(3).max(low), high),
+            _ => self.range(low, high),
+        }
+    }
+
+    /// How many jobs each chain has.
+    fn shape(&mut self, kind: Kind) -> Vec<u64> {
+        let (chains, most) = match kind {
+            Kind::Small => (self.range(1, 4), 4),
+            Kind::Dense => (self.range(2, 6), 6),
+            Kind::Long => (self.range(1, 3), 21),
+            Kind::Wide => (self.range(8, 16), 4),
+            Kind::Extreme => (self.range(1, 8), 8),
+        };
+        (0..chains).map(|_| self.range(1, most)).collect()
+    }
+
+    pub fn jobs(&mut self, kind: Kind) -> Vec<Job> {
+        let mut jobs = Vec::new();
+        for (c, count) in self.shape(kind).into_iter().enumerate() {
+            for j in 0..count {
+                let (release, priority, most) = match kind {
+                    Kind::Small => (self.range(0, 20), self.range(0, 3), self.range(1, 6)),
+                    Kind::Dense => (self.range(0, 60), self.range(0, 5), self.range(1, 12)),
+                    Kind::Long | Kind::Wide => (self.range(0, 400), self.range(0, 9), self.range(1, 30)),
+                    Kind::Extreme => (self.extreme(0, 1_000_000_000), self.extreme(0, 255), self.extreme(1, 1_000_000)),
+                };
+                let deadline = match kind {
+                    Kind::Extreme => self.extreme(0, 4_000_000_000),
+                    _ => self.range(0, 4 * (release + most) + 20),
+                };
+                jobs.push(Job { chain: c as u64 + 1, job: j + 1, release, priority, least: self.range(1, most), most, deadline });
+            }
+        }
+        jobs
+    }
+
+    /// The text of a table; the last line lacks its end now and then.
+    pub fn text(&mut self, jobs: &[Job]) -> Vec<u8> {
+        let mut out = String::from(HEADER);
+        for j in jobs {
+            out += &format!("\r\n{},{},{},{},{},{},{}", j.chain, j.job, j.release, j.priority, j.least, j.most, j.deadline);
+        }
+        if self.next() % 8 != 0 {
+            out += "\r\n";
+        }
+        out.into_bytes()
+    }
+
+    /// The text with a few bytes changed, left out, put in or cut off.
+    pub fn damaged(&mut self, text: &[u8]) -> Vec<u8> {
+        let mut out = text.to_vec();
+        for _ in 0..self.range(1, 3) {
+            if out.is_empty() {
+                break;
+            }
+            // the header is left alone mostly, so that the records are reached
+            let from = if self.next() % 8 == 0 { 0 } else { HEADER.len().min(out.len() - 1) };
+            let at = self.range(from as u64, out.len() as u64 - 1) as usize;
+            let byte = *b"0123456789,,,\r\n\r\n -a\x00\xff".get((self.next() % 22) as usize).unwrap();
+            match self.next() % 4 {
+                0 => out[at] = byte,
+                1 => {
+                    out.remove(at);
+                }
+                2 => out.insert(at, byte),
+                _ => out.truncate(at),
+            }
+        }
+        out
+    }
+}

@@ -1,0 +1,90 @@
+//! A job table's text.
+
+use crate::Job;
+
+pub const HEADER: &str = "chain,job,release,priority,least,most,deadline";
+
+/// The jobs of a table, or the number of its refusal.
+pub fn read(text: &[u8]) -> Result<Vec<Job>, u8> {
+    if text.len() > 4096 {
+        return Err(1);
+    }
+    let mut lines = lines(text).into_iter();
+    if lines.next() != Some(HEADER.as_bytes()) {
+        return Err(2);
+    }
+    let mut jobs: Vec<Job> = Vec::new();
+    for line in lines {
+        let v = fields(line).ok_or(3)?;
+        let job = Job { chain: v[0], job: v[1], release: v[2], priority: v[3], least: v[4], most: v[5], deadline: v[6] };
+        if jobs.len() == 64 {
+            return Err(4);
+        }
+        if !next_in_order(jobs.last(), &job) {
+            return Err(5);
+        }
+        if !within_limits(&job) {
+            return Err(6);
+        }
+        jobs.push(job);
+    }
+    if jobs.is_empty() {
+        return Err(7);
+    }
+    Ok(jobs)
+}
+
+/// The lines before each CR LF, and what is left after the last one, if anything.
+fn lines(text: &[u8]) -> Vec<&[u8]> {
+    let mut out = Vec::new();
+    let mut rest = text;
+    while !rest.is_empty() {
+        match rest.windows(2).position(|w| w == b"\r\n") {
+            Some(i) => {
+                out.push(&rest[..i]);
+                rest = &rest[i + 2..];
+            }
+            None => {
+                out.push(rest);
+                rest = &[];
+            }
+        }
+    }
+    out
+}
+
+fn fields(line: &[u8]) -> Option<[u64; 7]> {
+    let parts: Vec<&[u8]> = line.split(|b| *b == b',').collect();
+    if parts.len() != 7 {
+        return None;
+    }
+    let mut values = [0; 7];
+    for (value, part) in values.iter_mut().zip(parts) {
+        *value = number(part)?;
+    }
+    Some(values)
+}
+
+fn number(part: &[u8]) -> Option<u64> {
+    let canonical = part == b"0" || part.first().is_some_and(|b| *b != b'0');
+    if !canonical || part.len() > 10 || !part.iter().all(u8::is_ascii_digit) {
+        return None;
+    }
+    std::str::from_utf8(part).ok()?.parse().ok()
+}
+
+fn next_in_order(last: Option<&Job>, job: &Job) -> bool {
+    match last {
+        None => (job.chain, job.job) == (1, 1),
+        Some(l) => (job.chain, job.job) == (l.chain, l.job + 1) || (job.chain, job.job) == (l.chain + 1, 1),
+    }
+}
+
+fn within_limits(j: &Job) -> bool {
+    j.chain <= 16
+        && j.release <= 1_000_000_000
+        && j.priority <= 255
+        && (1..=j.most).contains(&j.least)
+        && j.most <= 1_000_000
+        && j.deadline <= 4_000_000_000
+}

@@ -1,0 +1,43 @@
+//! What the programs print.
+
+use crate::{bounds, machine, Job};
+
+pub fn bounds_text(jobs: &[Job]) -> String {
+    let b = bounds::bounds(jobs);
+    let mut out = String::from("chain,job,ert,cja,itr,slack\r\n");
+    for (i, j) in jobs.iter().enumerate() {
+        let slack = j.deadline as i64 - b.itr[i] as i64;
+        out += &format!("{},{},{},{},{},{}\r\n", j.chain, j.job, b.ert[i], b.cja[i], b.itr[i], slack);
+    }
+    out
+}
+
+pub fn trace_text(jobs: &[Job]) -> String {
+    let most: Vec<u64> = jobs.iter().map(|j| j.most).collect();
+    let mut out = String::from("chain,job,from,to\r\n");
+    for s in machine::trace(jobs, &most) {
+        out += &format!("{},{},{},{}\r\n", s.chain, s.job, s.from, s.to);
+    }
+    out
+}
+
+#[cfg(test)]
+mod tests {
+    use crate::table;
+
+    #[test]
+    fn the_table_of_the_scope() {
+        let text = "chain,job,release,priority,least,most,deadline\r\n1,1,0,1,20,40,60\r\n1,2,20,3,5,10,60\r\n1,3,75,1,40,50,170\r\n\
+                    1,4,130,3,85,85,260\r\n2,1,30,2,10,10,50\r\n2,2,60,2,50,50,120\r\n";
+        let jobs = table::read(text.as_bytes()).unwrap();
+        assert_eq!(
+            super::bounds_text(&jobs),
+            "chain,job,ert,cja,itr,slack\r\n1,1,100,100,50,10\r\n1,2,110,110,60,0\r\n1,3,220,185,175,-5\r\n1,4,305,270,260,0\r\n\
+             2,1,125,125,50,0\r\n2,2,260,195,110,10\r\n"
+        );
+        assert_eq!(
+            super::trace_text(&jobs),
+            "chain,job,from,to\r\n1,1,0,30\r\n2,1,30,40\r\n1,1,40,50\r\n1,2,50,60\r\n2,2,60,110\r\n1,3,110,160\r\n1,4,160,245\r\n"
+        );
+    }
+}
