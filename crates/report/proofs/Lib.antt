@@ -5,3 +5,4 @@ pub mod Wholes
 pub mod RefusedText
 pub mod RowTexts
 pub mod RowsTexts
+pub mod EntryTexts

@@ -1,3 +1,4 @@
 pub mod Columns
 pub mod Refusals
 pub mod Rows
+pub mod Entries

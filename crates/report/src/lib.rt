@@ -1,5 +1,6 @@
 // The texts that the programs print, written into a lent buffer.
 pub mod columns;
+pub mod entries;
 pub mod refused;
 pub mod row;
 pub mod rows;

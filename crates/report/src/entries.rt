@@ -1,0 +1,71 @@
+// The rows of the trace text: four numbers each, one row after another in a slice.
+ghost use mathlib.Core.Path.{_≡_};
+ghost use Prim.Native.Nat.{_+_, _*_, _≤_};
+ghost use lib.ListN.{length};
+ghost use Rattle.laws.specs.Buffers.{patched};
+ghost use Rattle.jobs.specs.Limits.{maxJobs};
+ghost use Rattle.report.specs.Entries.{entryText, entriesText};
+use crate::columns::columns_length;
+use crate::columns::write_bytes;
+use crate::columns::write_columns;
+
+// How many bytes entry n takes: four columns of at most 21, and 2.
+fn entry_length(numbers: &[u64], n: usize) -> usize
+    requires { ⌜ 4 * n + 4 ≤ length (now numbers) ⌝ }
+    ensures { λ r. ⌜ (r ≡ length (entryText (now (numbers .entry)) n)) × (r ≤ 86) ⌝ }
+{
+    let at = 4 * n;
+    let values = [
+        numbers[at],
+        numbers[at + 1],
+        numbers[at + 2],
+        numbers[at + 3],
+    ];
+    columns_length(&values) + 2
+}
+
+// Writes entry n, and answers the place after it.
+fn write_entry(numbers: &[u64], n: usize, out: &mut [u8], place: usize) -> usize
+    requires { ⌜ 4 * n + 4 ≤ length (now numbers) ⌝ }
+    requires { ⌜ place + length (entryText (now numbers) n) ≤ length (now out) ⌝ }
+    ensures { λ r. ⌜ (r ≡ place + length (entryText (now (numbers .entry)) n)) × (now (out .exit) ≡ patched (now (out .entry)) place (entryText (now (numbers .entry)) n)) ⌝ }
+{
+    let at = 4 * n;
+    let values = [
+        numbers[at],
+        numbers[at + 1],
+        numbers[at + 2],
+        numbers[at + 3],
+    ];
+    let after_columns = write_columns(&values, out, place);
+    write_bytes(b"\r\n", out, after_columns)
+}
+
+// How many bytes the first entries take.
+pub(crate) fn entries_length(numbers: &[u64], count: usize) -> usize
+    requires { ⌜ (4 * count ≤ length (now numbers)) × (count ≤ 2 * maxJobs) ⌝ }
+    ensures { λ r. ⌜ r ≡ length (entriesText (now (numbers .entry)) count) ⌝ }
+{
+    let mut sum: usize = 0;
+    let mut n: usize = 0;
+    while n < count {
+        sum += entry_length(numbers, n);
+        n += 1;
+    }
+    sum
+}
+
+// Writes the first entries, and answers the place after them.
+pub(crate) fn write_entries(numbers: &[u64], count: usize, out: &mut [u8], at: usize) -> usize
+    requires { ⌜ 4 * count ≤ length (now numbers) ⌝ }
+    requires { ⌜ at + length (entriesText (now numbers) count) ≤ length (now out) ⌝ }
+    ensures { λ r. ⌜ (r ≡ at + length (entriesText (now (numbers .entry)) count)) × (now (out .exit) ≡ patched (now (out .entry)) at (entriesText (now (numbers .entry)) count)) ⌝ }
+{
+    let mut next = at;
+    let mut n: usize = 0;
+    while n < count {
+        next = write_entry(numbers, n, out, next);
+        n += 1;
+    }
+    next
+}
