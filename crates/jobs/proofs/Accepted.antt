@@ -1,23 +1,23 @@
 -- An accepted set is in order and within its limits, and a set that is so is accepted. Assumes nothing.
-use Prim.Native.Nat.{ℕ, zero, suc, _+_, _-_, _≤_, _<_}
-use mathlib.Core.Path.{_≡_, refl, sym, ap, subst, _∙_}
-use mathlib.Core.Bool.{Bool, true, false, cond, _&&_, true≢false}
+use Prim.Native.Nat.{ℕ, zero, suc, _+_, _≤_, _<_}
+use mathlib.Core.Path.{_≡_, refl, sym}
+use mathlib.Core.Bool.{Bool, true, false, _&&_}
 use mathlib.Core.List.{List, [], _∷_, _++_}
-use mathlib.Core.Logic.{_⊎_, inl, inr}
+use mathlib.Core.Logic.{inl, inr}
 use native.Mathlib.Omega.{arith}
 use native.Mathlib.Numerals.{add-one}
-use lib.ListN.{length, take, drop, getD}
+use lib.ListN.{length, take, drop}
 use lib.Seq.{take-suc, drop-cons, length-take-le}
 use lib.Dec.{leb, ltb, eqb}
-use borrow.Author.Tests.{leb-true, leb-false, ltb-true, eqb-true, eqb-false, eq-eqb, ne-eqb, le-leb, lt-ltb, lt-leb}
+use borrow.Author.Tests.{leb-true, leb-false, ltb-true, eqb-true, eq-eqb, ne-eqb, le-leb, lt-ltb}
 use Rattle.laws.specs.Places.{lastOf}
-use Rattle.laws.proofs.Tests.{by-test, and-left, and-right, and-both}
+use Rattle.laws.proofs.Tests.{by-test, and-left, and-right}
 use Rattle.jobs.specs.declared.job.Job.{Job}
 use Rattle.jobs.specs.declared.refusal.Refusal.{Refusal}
 use Rattle.jobs.specs.declared.refusal.Check.{Check}
-use Rattle.jobs.specs.declared.refusal.Check.the-variants.{Passed, Refused}
+use Rattle.jobs.specs.declared.refusal.Check.the-variants.{Passed}
 use Rattle.jobs.specs.Limits.{maxJobs, maxChains, maxRelease, maxPriority, maxTime, maxDeadline}
-use Rattle.jobs.specs.Refusals.{unless, andThen}
+use Rattle.jobs.specs.Refusals.{unless}
 use Rattle.jobs.specs.Jobs.{noJob}
 use Rattle.jobs.specs.Records.{isNext, inLimits, recordCheck}
 use Rattle.jobs.specs.Checks.{recordsCheck, anyRecord, checkOf}

@@ -1,6 +1,6 @@
 -- A chain joins a set record by record: the records so far, numbered, and what is still to come. Assumes nothing.
-use Prim.Native.Nat.{ℕ, zero, suc, _+_, _-_, _≤_, _<_}
-use mathlib.Core.Path.{_≡_, refl, sym, ap, ap₂, _∙_}
+use Prim.Native.Nat.{ℕ, suc, _+_, _-_, _≤_, _<_}
+use mathlib.Core.Path.{_≡_, refl, sym, ap, _∙_}
 use mathlib.Core.List.{List, [], _∷_, _++_, append-assoc, append-nil}
 use native.Mathlib.Omega.{arith}
 use native.Mathlib.Nat.{add-zero}
@@ -11,7 +11,6 @@ use Rattle.laws.specs.Places.{lastOf}
 use Rattle.laws.proofs.Lists.{last-snoc}
 use Rattle.jobs.specs.declared.job.Job.{Job}
 use Rattle.jobs.specs.declared.set.JobSet.{JobSet}
-use Rattle.jobs.specs.declared.join.Joined.{Joined}
 use Rattle.jobs.specs.declared.refusal.Refusal.{Refusal}
 use Rattle.jobs.specs.declared.refusal.Refusal.the-variants.{NoRecord}
 use Rattle.jobs.specs.declared.refusal.Check.{Check}
@@ -19,7 +18,7 @@ use Rattle.jobs.specs.declared.refusal.Check.the-variants.{Passed, Refus
 use Rattle.jobs.specs.Limits.{maxJobs, maxChains}
 use Rattle.jobs.specs.Jobs.{noJob, jobsOf, setOf}
 use Rattle.jobs.specs.Records.{recordCheck}
-use Rattle.jobs.specs.Checks.{recordsCheck, anyRecord}
+use Rattle.jobs.specs.Checks.{recordsCheck}
 use Rattle.jobs.specs.Accepted.{jobAt}
 use Rattle.jobs.specs.Joins.{renumbered, numbered, withChain, joinCheck, joinOf}
 use Rattle.jobs.proofs.Sets.{job-at, grown, set-grown}

@@ -1,11 +1,11 @@
 -- Columns one after another, and how many bytes they take. Assumes nothing.
-use Prim.Native.Nat.{ℕ, zero, suc, _+_, _*_, _^_, _≤_, _<_}
+use Prim.Native.Nat.{ℕ, zero, suc, _+_, _^_, _≤_, _<_}
 use mathlib.Core.List.{List, [], _∷_, _++_, append-assoc, append-nil}
 use mathlib.Core.Path.{_≡_, refl, sym, ap, _∙_}
 use native.Mathlib.Omega.{arith}
-use native.Mathlib.Nat.{add-zero, zero-add}
+use native.Mathlib.Nat.{add-zero}
 use native.Mathlib.Numerals.{add-one}
-use lib.ListN.{length, take, getD, length-append}
+use lib.ListN.{length, take, getD}
 use lib.Seq.{take-suc, take-all, length-take-le}
 use Rattle.decimal.specs.Digits.{digitCount, decimal}
 use Rattle.decimal.proofs.Counts.{count-within}

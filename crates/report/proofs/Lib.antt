@@ -6,3 +6,4 @@ pub mod RefusedText
 pub mod RowTexts
 pub mod RowsTexts
 pub mod EntryTexts
+pub mod TextAnswers

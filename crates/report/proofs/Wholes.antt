@@ -1,10 +1,9 @@
 -- A text written from the start of a buffer is the whole text, as a writer that may have no room promises it. Assumes nothing.
-use Prim.Native.Nat.{ℕ, _+_, _≤_}
-use mathlib.Core.List.{List, [], _++_}
-use mathlib.Core.Path.{_≡_, refl, ap, _∙_}
-use native.Mathlib.Omega.{arith}
+use Prim.Native.Nat.{ℕ, _≤_}
+use mathlib.Core.List.{List, _++_}
+use mathlib.Core.Path.{_≡_, ap, _∙_}
 use native.Mathlib.Nat.{zero-add}
-use lib.ListN.{length, take, drop}
+use lib.ListN.{length, drop}
 use Rattle.laws.specs.Buffers.{patched}
 use Rattle.laws.proofs.Buffers.{Wrote}
 use Rattle.decimal.proofs.Writing.{Writes, writes-fits}

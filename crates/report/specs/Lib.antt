@@ -2,3 +2,4 @@ pub mod Columns
 pub mod Refusals
 pub mod Rows
 pub mod Entries
+pub mod Texts

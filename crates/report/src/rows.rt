@@ -1,6 +1,6 @@
 // The rows of the bounds text.
 ghost use mathlib.Core.Path.{_≡_};
-ghost use Prim.Native.Nat.{_+_, _≤_};
+ghost use Prim.Native.Nat.{_+_, _*_, _≤_};
 ghost use lib.ListN.{length};
 ghost use Rattle.laws.specs.Buffers.{patched};
 ghost use Rattle.jobs.specs.Limits.{maxJobs};
@@ -9,7 +9,7 @@ use crate::row::row_length;
 use crate::row::write_row;
 use jobs::set::JobSet;
 
-// How many bytes the rows of a set take.
+// How many bytes the rows of a set take, at most 129 each.
 pub(crate) fn rows_length<'a>(
     set: JobSet,
     ert: &'a [u64; JobSet::MAX_JOBS],
@@ -18,7 +18,7 @@ pub(crate) fn rows_length<'a>(
     slacks: &'a [i64; JobSet::MAX_JOBS],
 ) -> usize
     requires { ⌜ set .count ≤ maxJobs ⌝ }
-    ensures { λ r. ⌜ r ≡ length (boundsRows (set .jobs) (now (ert .entry)) (now (cja .entry)) (now (itr .entry)) (now (slacks .entry)) (set .count)) ⌝ }
+    ensures { λ r. ⌜ (r ≡ length (boundsRows (set .jobs) (now (ert .entry)) (now (cja .entry)) (now (itr .entry)) (now (slacks .entry)) (set .count))) × (r ≤ 129 * maxJobs) ⌝ }
 {
     let count = set.count;
     let mut sum: usize = 0;

@@ -1,10 +1,10 @@
 -- The field of a column stands in the first line of what is left: the end of the line holds no digit and no comma. Assumes nothing.
-use Prim.Native.Nat.{ℕ, suc, _+_, _-_, _≤_, _<_}
-use mathlib.Core.Bool.{true, false}
+use Prim.Native.Nat.{ℕ, suc, _+_, _-_, _≤_}
+use mathlib.Core.Bool.{true}
 use mathlib.Core.List.{List, [], _∷_, _++_}
 use mathlib.Core.Path.{_≡_, refl, sym, ap, _∙_}
 use native.Mathlib.Omega.{arith}
-use lib.ListN.{length, take, drop, getD, length-take, take-append-drop}
+use lib.ListN.{length, take, drop, getD, take-append-drop}
 use lib.Seq.{drop-length}
 use lib.Dec.{eqb}
 use borrow.Author.Tests.{eq-eqb, ne-eqb, eqb-true}
@@ -12,7 +12,7 @@ use Rattle.laws.proofs.Tests.{by-test, and-left}
 use Rattle.laws.proofs.Lists.{rest-is}
 use Rattle.decimal.specs.declared.field.Field.{Field}
 use Rattle.decimal.specs.declared.field.Field.the-variants.{Number, NoNumber}
-use Rattle.decimal.specs.Fields.{isDigit, digitRun, fieldOf}
+use Rattle.decimal.specs.Fields.{digitRun, fieldOf}
 use Rattle.decimal.proofs.Fields.{digit-low, field-append, field-within}
 use Rattle.table.specs.Lines.{isBreak, firstLine}
 use Rattle.table.specs.Rows.{withComma, afterComma, columnOf}

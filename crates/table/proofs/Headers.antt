@@ -1,7 +1,7 @@
 -- A text that starts with the header: byte by byte, and as its first line. Assumes nothing.
-use Prim.Native.Nat.{ℕ, zero, suc, _+_, _-_, _≤_, _<_}
+use Prim.Native.Nat.{ℕ, _+_, _≤_, _<_}
 use mathlib.Core.Bool.{Bool, true, false, cond, true≢false}
-use mathlib.Core.List.{List, [], _∷_, _++_}
+use mathlib.Core.List.{List, [], _∷_}
 use mathlib.Core.Path.{_≡_, refl, sym, ap, _∙_}
 use native.Mathlib.Omega.{arith}
 use native.Mathlib.Numerals.{add-one}
@@ -10,7 +10,6 @@ use lib.Seq.{drop-cons}
 use lib.Dec.{eqb}
 use borrow.Author.Tests.{eq-eqb, ne-eqb, eqb-true, eqb-false}
 use Rattle.laws.proofs.Tests.{by-test}
-use Rattle.table.specs.declared.line.End.{End}
 use Rattle.table.specs.declared.line.End.the-variants.{Here, Elsewhere}
 use Rattle.table.specs.Lines.{isBreak, firstLine, afterLine, endOf, startsWith}
 use Rattle.table.specs.Tables.{header, same, headerEnd}

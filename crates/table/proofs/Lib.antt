@@ -4,3 +4,4 @@ pub mod Rows
 pub mod Headers
 pub mod Records
 pub mod Tables
+pub mod Accepting

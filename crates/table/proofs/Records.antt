@@ -1,9 +1,9 @@
 -- The records of a table read line by line are those of its lines. Assumes nothing.
-use Prim.Native.Nat.{ℕ, zero, suc, _+_, _-_, _≤_, _<_}
+use Prim.Native.Nat.{ℕ, suc, _+_, _≤_, _<_}
 use mathlib.Core.List.{List, [], _∷_, _++_}
 use mathlib.Core.Path.{_≡_, refl, sym, ap, ap₂, _∙_}
 use native.Mathlib.Omega.{arith}
-use lib.ListN.{length, drop, getD, length-append, length-drop, drop-of-length-le}
+use lib.ListN.{length, drop, getD, length-drop, drop-of-length-le}
 use lib.Seq.{drop-drop, drop-cons}
 use Rattle.laws.specs.Places.{lastOf, padded}
 use Rattle.laws.proofs.Lists.{last-snoc, getD-padded}
@@ -16,13 +16,13 @@ use Rattle.jobs.specs.declared.refusal.Check.the-variants.{Passed, Refused}
 use Rattle.jobs.specs.Limits.{maxJobs}
 use Rattle.jobs.specs.Jobs.{noJob, jobsOf, setOf}
 use Rattle.jobs.specs.Records.{recordCheck}
-use Rattle.jobs.proofs.Sets.{length-jobs, count-set, jobs-set, grown, set-grown}
+use Rattle.jobs.proofs.Sets.{length-jobs, jobs-set, grown, set-grown}
 use Rattle.jobs.proofs.Checks.{any-none, any-some}
 use Rattle.jobs.proofs.Accepted.{record-fine}
 use Rattle.table.specs.declared.line.Line.{Line}
 use Rattle.table.specs.declared.reading.Reading.{Reading}
 use Rattle.table.specs.Lines.{firstLine, afterLine, linesUpTo, linesOf}
-use Rattle.table.specs.Rows.{maxColumns, Row, row, noRow, rowOf, fieldsIn, lineWith, lineOf}
+use Rattle.table.specs.Rows.{maxColumns, Row, row, noRow, rowOf, lineWith, lineOf}
 use Rattle.table.specs.Tables.{jobOf, refusedWith, thenRow, thenCheck, recordsFrom}
 use Rattle.table.proofs.Lines.{lineLength, line-within, line-some, after-drop, lines-cons}
 

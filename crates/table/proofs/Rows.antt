@@ -3,10 +3,10 @@ use Prim.Native.Nat.{ℕ, zero, suc, _+_, _-_, _≤_, _<_}
 use mathlib.Core.List.{List, [], _∷_, _++_}
 use mathlib.Core.Path.{_≡_, refl, sym, ap, ap₂, _∙_}
 use native.Mathlib.Omega.{arith}
-use native.Mathlib.Nat.{zero-add, add-assoc}
+use native.Mathlib.Nat.{zero-add}
 use native.Mathlib.Numerals.{add-one}
 use lib.ListN.{length, take, drop, set, length-take, length-drop}
-use lib.Seq.{drop-drop, take-suc-set, take-all, length-take-le}
+use lib.Seq.{drop-drop, take-suc-set, length-take-le}
 use Rattle.laws.specs.Places.{padded}
 use Rattle.laws.proofs.Lists.{length-padded, padded-snoc}
 use Rattle.decimal.specs.declared.field.Field.{Field}
@@ -15,9 +15,9 @@ use Rattle.jobs.specs.declared.refusal.Check.the-variants.{Passed}
 use Rattle.table.specs.declared.line.End.{End}
 use Rattle.table.specs.declared.line.End.the-variants.{Here, Elsewhere}
 use Rattle.table.specs.declared.line.Line.{Line}
-use Rattle.table.specs.Lines.{firstLine, afterLine, endOf}
+use Rattle.table.specs.Lines.{firstLine, endOf}
 use Rattle.table.specs.Rows.{maxColumns, columnOf, Row, row, noRow, fieldsIn, malformedLine, lineWith, lineOf}
-use Rattle.table.proofs.Lines.{lineLength, after-within, Inside, inside, end-empty, end-elsewhere, end-within}
+use Rattle.table.proofs.Lines.{lineLength, after-within, inside, end-empty, end-elsewhere, end-within}
 use Rattle.table.proofs.Columns.{column-line, column-within}
 
 abbrev passedLine : List ℕ → ℕ → Line

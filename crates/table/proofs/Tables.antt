@@ -1,6 +1,6 @@
 -- A whole table, by its header. Assumes nothing.
 use Prim.Native.Nat.{ℕ, _≤_, _<_}
-use mathlib.Core.Bool.{true, false, cond}
+use mathlib.Core.Bool.{cond}
 use mathlib.Core.List.{List, [], _∷_}
 use mathlib.Core.Path.{_≡_, refl, sym, ap, _∙_}
 use native.Mathlib.Omega.{arith}
@@ -9,13 +9,12 @@ use borrow.Author.Tests.{le-leb, lt-leb}
 use Rattle.laws.proofs.Tests.{by-test}
 use Rattle.jobs.specs.declared.refusal.Refusal.the-variants.{TextTooLong, NotHeader}
 use Rattle.table.specs.declared.line.End.the-variants.{Here, Elsewhere}
-use Rattle.table.specs.declared.reading.Reading.{Reading}
 use Rattle.table.specs.Lines.{firstLine, afterLine, linesUpTo, linesOf}
-use Rattle.table.specs.Tables.{header, maxText, refusedWith, recordsFrom, same, underHeader, headerEnd, tableOf}
+use Rattle.table.specs.Tables.{header, maxText, refusedWith, recordsFrom, same, underHeader, headerEnd, readingOf}
 use Rattle.table.proofs.Lines.{lineLength, line-within, after-drop, lines-cons}
 
-pub too-long : (text : List ℕ) → maxText < length text → refusedWith TextTooLong ≡ tableOf text
-unfolding tableOf
+pub too-long : (text : List ℕ) → maxText < length text → refusedWith TextTooLong ≡ readingOf text
+unfolding readingOf
 too-long text h = rw (lt-leb (length text) maxText h)
 
 -- the lines under the header are those behind the first line
@@ -24,18 +23,18 @@ by-header [] = unfold linesUpTo firstLine same in refl
 by-header (b ∷ text) = ap underHeader (lines-cons b text)
 
 module _ (text : List ℕ) (short : length text ≤ maxText) where
-  table-by : tableOf text ≡ cond (same (firstLine text) header) (recordsFrom [] (linesOf (afterLine text))) (refusedWith NotHeader)
-  unfolding tableOf
+  table-by : readingOf text ≡ cond (same (firstLine text) header) (recordsFrom [] (linesOf (afterLine text))) (refusedWith NotHeader)
+  unfolding readingOf
   table-by = rw (le-leb (length text) maxText short) (by-header text)
 
-  pub no-header : headerEnd text ≡ Elsewhere → refusedWith NotHeader ≡ tableOf text
+  pub no-header : headerEnd text ≡ Elsewhere → refusedWith NotHeader ≡ readingOf text
   unfolding headerEnd
   no-header e =
       by-test (same (firstLine text) header)
       (λ t. let z : _≡_ {A = ℕ} 0 1 = cc (rw t at e) in absurd (omega arith))
       (λ t. sym (table-by ∙ rw t))
 
-  pub under-header : (n : ℕ) → headerEnd text ≡ Here n → (n ≤ length text) × (recordsFrom [] (linesOf (drop n text)) ≡ tableOf text)
+  pub under-header : (n : ℕ) → headerEnd text ≡ Here n → (n ≤ length text) × (recordsFrom [] (linesOf (drop n text)) ≡ readingOf text)
   unfolding headerEnd
   under-header n e =
       by-test (same (firstLine text) header)

@@ -3,7 +3,7 @@
 --   maxText       the greatest length of a text
 --   jobOf         the job that a record's values describe
 --   recordsFrom   3 to 6 line by line, the first bad line deciding, then 7
---   tableOf       the answer to reading a text: its jobs, or the refusal with no jobs
+--   readingOf       the answer to reading a text: its jobs, or the refusal with no jobs
 -- Assumes nothing.
 use Prim.Native.Nat.{ℕ, _-_}
 use mathlib.Core.Bool.{Bool, true, false, cond}
@@ -79,8 +79,8 @@ abbrev pub underHeader : List (List ℕ) → Reading
 underHeader [] = refusedWith NotHeader
 underHeader (line ∷ lines) = cond (same line header) (recordsFrom [] lines) (refusedWith NotHeader)
 
-unfoldable pub tableOf : List ℕ → Reading
-tableOf text = cond (leb (length text) maxText) (underHeader (linesOf text)) (refusedWith TextTooLong)
+unfoldable pub readingOf : List ℕ → Reading
+readingOf text = cond (leb (length text) maxText) (underHeader (linesOf text)) (refusedWith TextTooLong)
 
 -- how many bytes the first line takes with its end, where it is the header
 unfoldable pub headerEnd : List ℕ → End

@@ -2,7 +2,7 @@
 ghost use mathlib.Core.Path.{_≡_};
 ghost use mathlib.Core.List.{[]};
 ghost use Rattle.table.specs.Lines.{linesOf};
-ghost use Rattle.table.specs.Tables.{jobOf, refusedWith, recordsFrom, tableOf};
+ghost use Rattle.table.specs.Tables.{jobOf, refusedWith, recordsFrom, readingOf};
 use crate::header::read_header;
 use crate::line::End;
 use crate::line::MAX_COLUMNS;
@@ -83,7 +83,7 @@ fn read_records(rest: &[u8]) -> Reading
 
 // The jobs of a table, or the refusal: 1 and 2 first, then those of its lines.
 pub fn read(text: &[u8]) -> Reading
-    ensures { λ r. ⌜ r ≡ tableOf (now (text .entry)) ⌝ }
+    ensures { λ r. ⌜ r ≡ readingOf (now (text .entry)) ⌝ }
 {
     if MAX_TEXT < text.len() {
         return refused(Refusal::TextTooLong);

@@ -1,9 +1,8 @@
 -- `check_records` answers `recordsCheck` of the set's records. The loop's invariant: those passed so far, and what is still to come decides.
 -- Assumes nothing.
-use Prim.Native.Nat.{_-_, _≤_, _<_}
-use mathlib.Core.Path.{_≡_, sym, _∙_}
+use Prim.Native.Nat.{_-_}
+use mathlib.Core.Path.{sym, _∙_}
 use native.Mathlib.Omega.{arith}
-use lib.ListN.{length}
 use borrow.Author.Needs.{needs}
 use Rattle.jobs.specs.declared.refusal.Refusal.the-variants.{TooManyRecords}
 use Rattle.jobs.specs.Jobs.{jobsOf}

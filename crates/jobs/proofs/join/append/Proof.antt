@@ -1,19 +1,17 @@
 -- `append` answers `joinOf`. The loop's invariant: the new records so far stand numbered behind the old ones, and what is still to come decides.
 -- Assumes nothing.
-use Prim.Native.Nat.{_-_, _≤_, _<_}
-use mathlib.Core.Path.{_≡_, refl, sym, ap, _∙_}
+use Prim.Native.Nat.{_-_}
+use mathlib.Core.Path.{refl, sym, ap, _∙_}
 use native.Mathlib.Omega.{arith}
-use lib.ListN.{length}
 use borrow.Author.Needs.{needs}
 use Rattle.jobs.specs.declared.set.JobSet.{JobSet}
 use Rattle.jobs.specs.declared.join.Joined.{Joined}
-use Rattle.jobs.specs.declared.refusal.Refusal.the-variants.{TooManyRecords}
 use Rattle.jobs.specs.declared.refusal.Check.the-variants.{Passed}
 use Rattle.jobs.specs.Jobs.{jobsOf}
 use Rattle.jobs.proofs.Sets.{length-jobs}
 use Rattle.jobs.proofs.Checks.{record-many}
 use Rattle.jobs.proofs.Accepted.{records-few}
-use Rattle.jobs.proofs.Joins.{last-chain, nextJob, Joining, joining-start, joining-count, joining-end, joining-refused, joining-next, next-job, join-refused, join-empty, join-passed}
+use Rattle.jobs.proofs.Joins.{last-chain, Joining, joining-start, joining-count, joining-end, joining-refused, joining-next, next-job, join-refused, join-empty, join-passed}
 use Rattle.jobs.proofs.join.append.Statement.{statement}
 use Rattle.jobs.proofs.join.append.Tie as tie
 

@@ -1,7 +1,7 @@
 -- `last_of` answers the last of the set's jobs. Assumes nothing.
-use mathlib.Core.Path.{_≡_, sym, ap, _∙_}
+use mathlib.Core.Path.{sym, ap, _∙_}
 use native.Mathlib.Omega.{arith}
-use Prim.Native.Nat.{ℕ, _-_, _<_}
+use Prim.Native.Nat.{ℕ, _-_}
 use borrow.Author.Needs.{needs}
 use Rattle.jobs.specs.Jobs.{jobsOf}
 use Rattle.jobs.specs.Accepted.{jobAt}

@@ -1,5 +1,5 @@
 -- `column_length` answers the length of `columnText`. Assumes nothing.
-use mathlib.Core.Path.{_≡_, sym, _∙_}
+use mathlib.Core.Path.{sym, _∙_}
 use native.Mathlib.Omega.{arith}
 use borrow.Author.Needs.{needs}
 use Rattle.report.proofs.ColumnTexts.{first-length, later-length, word-digits}

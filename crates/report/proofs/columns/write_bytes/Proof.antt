@@ -1,9 +1,6 @@
 -- `write_bytes` leaves the bytes at the place. The loop's invariant: the first i of them stand there. Assumes nothing.
-use Prim.Native.Nat.{_+_, _-_, _≤_}
-use mathlib.Core.Path.{_≡_, refl, sym, ap, _∙_}
-use native.Mathlib.Omega.{arith}
-use lib.ListN.{length, take, getD}
-use lib.Seq.{take-all}
+use Prim.Native.Nat.{_-_}
+use lib.ListN.{length}
 use borrow.Author.Needs.{needs}
 use Rattle.laws.proofs.Pieces.{pieces-same}
 use Rattle.report.proofs.Bytes.{BytesWritten, bytes-none, bytes-next, bytes-room, bytes-end}

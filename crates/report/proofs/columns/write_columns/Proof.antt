@@ -1,5 +1,5 @@
 -- `write_columns` leaves the columns at the place. The loop's invariant: the first k of them stand there. Assumes nothing.
-use Prim.Native.Nat.{_-_, _≤_}
+use Prim.Native.Nat.{_-_}
 use lib.ListN.{length}
 use borrow.Author.Needs.{needs}
 use Rattle.laws.proofs.Pieces.{pieces-same, pieces-room, pieces-more}

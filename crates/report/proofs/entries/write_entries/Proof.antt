@@ -1,5 +1,5 @@
 -- `write_entries` leaves the rows at the place. The loop's invariant: the first n of them stand there. Assumes nothing.
-use Prim.Native.Nat.{_-_, _≤_}
+use Prim.Native.Nat.{_-_}
 use native.Mathlib.Omega.{arith}
 use borrow.Author.Needs.{needs}
 use Rattle.laws.proofs.Pieces.{pieces-none, pieces-same, pieces-room, pieces-more, pieces-end}

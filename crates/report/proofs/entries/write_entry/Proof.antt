@@ -1,8 +1,6 @@
 -- `write_entry` leaves the row at the place. Assumes nothing.
-use Prim.Native.Nat.{_+_, _≤_}
 use mathlib.Core.List.{[], _++_}
 use native.Mathlib.Omega.{arith}
-use lib.ListN.{length}
 use borrow.Author.Needs.{needs}
 use Rattle.laws.proofs.Buffers.{Wrote, wrote-none, wrote-more, wrote-room, wrote-length}
 use Rattle.report.specs.Columns.{columnsText}

@@ -9,7 +9,6 @@ use Rattle.laws.specs.Text.{ascii}
 use Rattle.laws.proofs.Buffers.{Wrote, wrote-none, wrote-more, wrote-room, wrote-length}
 use Rattle.decimal.specs.Digits.{digitCount}
 use Rattle.decimal.proofs.Writing.{writes-short}
-use Rattle.jobs.specs.Refusals.{numberOf}
 use Rattle.report.specs.Columns.{columnText}
 use Rattle.report.specs.Refusals.{lineEnd, refusedText}
 use Rattle.report.proofs.ColumnTexts.{first-length, word-digits}

@@ -1,5 +1,5 @@
 -- `write_slack` leaves a comma and the slack at the place. Assumes nothing.
-use Prim.Native.Nat.{_+_, _-_, _≤_}
+use Prim.Native.Nat.{_+_, _-_}
 use native.Mathlib.Omega.{arith}
 use lib.ListN.{length, set, length-set}
 use mir.Facts.{toZ-ofZ}

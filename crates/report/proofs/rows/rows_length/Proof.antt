@@ -1,6 +1,6 @@
 -- `rows_length` answers the length of `boundsRows`. The loop's invariant: the sum is that of the first n rows. Assumes nothing.
-use Prim.Native.Nat.{ℕ, _+_, _*_, _-_, _≤_}
-use mathlib.Core.Path.{_≡_, refl, sym, ap, _∙_}
+use Prim.Native.Nat.{ℕ, _*_, _-_, _≤_}
+use mathlib.Core.Path.{_≡_, refl, ap, _∙_}
 use native.Mathlib.Omega.{arith}
 use lib.IntN.{pos}
 use lib.ListN.{length, getD, length-append}
@@ -82,7 +82,7 @@ loop-again c =
 returns : tie.Need-returns Inv-loop μ-loop
 returns c =
     let l = c .before .loop in
-    l .inv .2 ∙ ap (λ (n : ℕ). length (boundsRows (c .before .before .args .t1 .jobs) (c .before .before .args .ert .now) (c .before .before .args .cja .now) (c .before .before .args .itr .now) (c .before .before .args .slacks .now) n)) (omega (arith, l .inv .0))
+    (l .inv .2 ∙ ap (λ (n : ℕ). length (boundsRows (c .before .before .args .t1 .jobs) (c .before .before .args .ert .now) (c .before .before .args .cja .now) (c .before .before .args .itr .now) (c .before .before .args .slacks .now) n)) (omega (arith, l .inv .0)), omega (arith, l .inv .0, l .inv .1, c .before .before .pre))
 
 pub rows-length-spec : {M : Type 1} → statement M
 rows-length-spec =

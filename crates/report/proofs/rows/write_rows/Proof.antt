@@ -1,5 +1,5 @@
 -- `write_rows` leaves the rows at the place. The loop's invariant: the first n of them stand there. Assumes nothing.
-use Prim.Native.Nat.{_-_, _≤_}
+use Prim.Native.Nat.{_-_}
 use lib.IntN.{pos}
 use lib.ListN.{getD}
 use mir.Syntax.{w64}

@@ -1,15 +1,12 @@
 -- `read_header` answers `headerEnd`. Assumes nothing.
-use Prim.Native.Nat.{_≤_}
 use mathlib.Core.Bool.{true}
 use mathlib.Core.Path.{_≡_, sym, _∙_}
-use native.Mathlib.Omega.{arith}
 use lib.ListN.{length, drop}
 use borrow.Author.Needs.{needs}
 use borrow.Author.Tests.{not-true, not-false}
 use Rattle.laws.proofs.Lists.{rest-is}
 use Rattle.table.specs.Lines.{endOf, startsWith}
 use Rattle.table.specs.Tables.{header}
-use Rattle.table.proofs.Lines.{end-within}
 use Rattle.table.proofs.Headers.{not-header, header-within, header-room, header-line, header-longer}
 use Rattle.table.proofs.header.read_header.Statement.{statement}
 use Rattle.table.proofs.header.read_header.Tie as tie

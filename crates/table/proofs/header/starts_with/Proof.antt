@@ -1,5 +1,5 @@
 -- `starts_with` answers `startsWith`. The loop's invariant: what follows the bytes so far decides. Assumes nothing.
-use Prim.Native.Nat.{_-_, _≤_}
+use Prim.Native.Nat.{_-_}
 use mathlib.Core.Path.{_≡_, refl, sym, _∙_}
 use lib.ListN.{length, drop}
 use borrow.Author.Needs.{needs}

@@ -1,20 +1,19 @@
--- `read` answers `tableOf`. Assumes nothing.
+-- `read` answers `readingOf`. Assumes nothing.
 use Prim.Native.Nat.{_≤_}
 use mathlib.Core.List.{[]}
 use mathlib.Core.Path.{_≡_, sym, _∙_}
-use native.Mathlib.Omega.{arith}
 use lib.ListN.{length, drop}
 use borrow.Author.Needs.{needs}
 use Rattle.laws.proofs.Lists.{rest-is}
 use Rattle.table.specs.Lines.{linesOf}
-use Rattle.table.specs.Tables.{recordsFrom, tableOf}
+use Rattle.table.specs.Tables.{recordsFrom, readingOf}
 use Rattle.table.proofs.Tables.{too-long, no-header, under-header}
 use Rattle.table.proofs.reading.read.Statement.{statement}
 use Rattle.table.proofs.reading.read.Tie as tie
 
 -- the records stand behind the header
 behind : (c : tie.After-known-told)
-    → (c .before .length .given .0 .0 ≤ length (c .before .before .before .before .before .before .args .text .now)) × (recordsFrom [] (linesOf (drop (c .before .length .given .0 .0) (c .before .before .before .before .before .before .args .text .now))) ≡ tableOf (c .before .before .before .before .before .before .args .text .now))
+    → (c .before .length .given .0 .0 ≤ length (c .before .before .before .before .before .before .args .text .now)) × (recordsFrom [] (linesOf (drop (c .before .length .given .0 .0) (c .before .before .before .before .before .before .args .text .now))) ≡ readingOf (c .before .before .before .before .before .before .args .text .now))
 behind c = under-header (c .before .before .before .before .before .before .args .text .now) (c .before .before .before .before .if1 .left) _ (sym (c .before .before .before .read-header .ensures) ∙ c .before .length .given .1)
 
 refused-requires : tie.Need-refused-requires

@@ -1,6 +1,6 @@
 -- `read_records` answers `recordsFrom`. The loop's invariant: the lines so far are records of the set, and what follows them decides.
 -- Assumes nothing.
-use Prim.Native.Nat.{_-_, _≤_, _<_}
+use Prim.Native.Nat.{_-_, _<_}
 use mathlib.Core.Path.{_≡_, sym, ap, _∙_}
 use native.Mathlib.Omega.{arith}
 use lib.ListN.{length, drop}

@@ -3,7 +3,6 @@ use mathlib.Core.Path.{ap}
 use borrow.Author.Needs.{needs}
 use Rattle.jobs.specs.declared.set.JobSet.{JobSet}
 use Rattle.jobs.specs.declared.refusal.Check.the-variants.{Refused}
-use Rattle.table.specs.declared.reading.Reading.{Reading}
 use Rattle.table.proofs.reading.refused.Statement.{statement}
 use Rattle.table.proofs.reading.refused.Tie as tie
 

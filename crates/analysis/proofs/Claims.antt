@@ -1,0 +1,25 @@
+-- The claim of specs/Analysis about the number of rounds. Assumes nothing.
+use mathlib.Core.Path.{_≡_, sym, subst}
+use Rattle.jobs.specs.declared.set.JobSet.{JobSet}
+use Rattle.jobs.specs.declared.refusal.Check.the-variants.{Passed}
+use Rattle.jobs.specs.Jobs.{jobsOf}
+use Rattle.jobs.specs.Checks.{checkOf}
+use Rattle.theory.specs.Releases.{tableOf}
+use Rattle.theory.specs.Rounds.{itr}
+use Rattle.theory.proofs.Claims.{demand-3, few-rounds}
+use Rattle.analysis.specs.Analysis.{itrOf, Counted, RoundsCounted}
+
+rounds-are : (set : JobSet) → checkOf (jobsOf set) ≡ Passed → itrOf set .rounds ≡ itr (tableOf (jobsOf set)) .rounds
+unfolding itrOf
+rounds-are set passed = rw passed
+
+pub itr-rounds : RoundsCounted
+itr-rounds set passed =
+    let all = demand-3 (jobsOf set) passed in
+    subst (Counted (tableOf (jobsOf set))) (sym (rounds-are set passed))
+    (record {
+      repeats = all .settled .last;
+      first = all .settled .first;
+      cubic = all .rounds;
+      few = few-rounds (jobsOf set) passed;
+    })

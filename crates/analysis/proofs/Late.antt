@@ -1,0 +1,60 @@
+-- Bounds so late that each job counts: with them a round works out CJA, and the scan the interference of ERT. Assumes a table in its limits.
+use Prim.Native.Nat.{ℕ, suc, _<_}
+use mathlib.Core.Path.{_≡_, refl, _∙_}
+use mathlib.Core.Bool.{true}
+use mathlib.Core.List.{List}
+use native.Mathlib.Omega.{arith}
+use lib.ListN.{getD, replicate, getD-replicate}
+use borrow.Author.Tests.{lt-ltb}
+use Rattle.laws.proofs.Tabulate.{tabulate-ext}
+use Rattle.jobs.specs.Limits.{maxJobs}
+use Rattle.theory.specs.Table.{Table}
+use Rattle.theory.specs.Interference.{interference}
+use Rattle.theory.specs.Bounds.{interferenceAt, largestPair, cjaWith, always, cja, boundLimit}
+use Rattle.theory.specs.Rounds.{overlap, round}
+use Rattle.theory.proofs.Interference.{interference-same}
+use Rattle.theory.proofs.Overlaps.{overlap-by}
+use Rattle.theory.proofs.Monotone.{pairs-mono}
+use Rattle.analysis.specs.Kernel.{lent, Fit, weightOf, spanned}
+use Rattle.analysis.proofs.Unread.{interference-unread}
+
+abbrev pub late : List ℕ
+late = replicate maxJobs boundLimit
+
+late-at : (u : ℕ) → u < maxJobs → getD late u 0 ≡ boundLimit
+late-at u l = getD-replicate maxJobs u boundLimit 0 l
+
+module _ (t : Table) (fit : Fit t) where
+  late-overlap : (k j u : ℕ) → k < t .count → j < t .count → u < t .count → overlap t late k j u ≡ true
+  late-overlap k j u kl jl ul =
+      overlap-by t late k j u
+      (omega (arith, late-at u (omega (arith, fit .few)), fit .early k kl))
+      (omega (arith, late-at j (omega (arith, fit .few)), fit .early u ul))
+
+  pub round-late : round t late ≡ cja t
+  unfolding round cja cjaWith
+  round-late =
+      tabulate-ext 0 (t .count) (λ j. largestPair t (overlap t late) j (suc j)) (λ j. largestPair t always j (suc j)) (λ j z l.
+      omega (
+        arith,
+        pairs-mono t (overlap t late) always j (λ k u kj c ul ne v. refl),
+        pairs-mono t always (overlap t late) j (λ k u kj c ul ne v. late-overlap k j u (omega arith) (omega arith) ul),
+      ))
+
+module _ (count : ℕ) (chain urgency most earliest latest : List ℕ) (fit : Fit (lent count chain urgency most earliest latest)) where
+  abbrev t : Table
+  t = lent count chain urgency most earliest latest
+
+  weight-late : (u : ℕ) → u < count → spanned most earliest late 0 boundLimit u ≡ getD most u 0
+  unfolding weightOf
+  weight-late u l =
+      rw (lt-ltb 0 (getD late u 0) (omega (arith, late-at u (omega (arith, fit .few)))), lt-ltb (getD earliest u 0) boundLimit (omega (arith, fit .early u l)))
+
+  pub delay-late : (i delay : ℕ)
+      → delay ≡ interference (lent count chain urgency most earliest earliest) (getD chain i 0) (getD urgency i 0) (spanned most earliest late 0 boundLimit)
+      → delay ≡ interferenceAt t i
+  unfolding interferenceAt
+  delay-late i delay e =
+      e
+      ∙ interference-unread count (t .chain) (t .urgency) (λ k. 0) (t .most) (t .earliest) (t .earliest) (λ k. 0) (t .most) (t .earliest) (t .latest) _ _ _
+      ∙ interference-same t (t .chain i) (t .urgency i) (spanned most earliest late 0 boundLimit) (t .most) (λ u ul ne. weight-late u ul)

@@ -1,0 +1,16 @@
+pub mod Prior
+pub mod Weights
+pub mod Scans
+pub mod Unread
+pub mod Pairs
+pub mod Predecessors
+pub mod Ruled
+pub mod Late
+pub mod Gathered
+pub mod Lent
+pub mod Rounding
+pub mod Meeting
+pub mod Differences
+pub mod Slacks
+pub mod Joining
+pub mod Claims

@@ -1,0 +1,128 @@
+-- `columns_of` answers `columnsOf`. The loop's invariant: the columns hold the figures of the first i jobs. Assumes nothing.
+use Prim.Native.Nat.{_-_, _≤_, _<_}
+use mathlib.Core.Path.{sym, ap, _∙_}
+use native.Mathlib.Omega.{arith}
+use lib.ListN.{length}
+use borrow.Author.Needs.{needs}
+use Rattle.jobs.specs.Limits.{maxJobs}
+use Rattle.jobs.specs.Jobs.{jobsOf}
+use Rattle.jobs.proofs.Sets.{length-jobs, job-at}
+use Rattle.jobs.proofs.Accepted.{accepted}
+use Rattle.theory.specs.Releases.{tableOf}
+use Rattle.theory.proofs.Releases.{earliest-latest}
+use Rattle.theory.proofs.AcceptedSets.{accepted-latest}
+use Rattle.analysis.specs.Kernel.{columnsOf}
+use Rattle.analysis.proofs.Gathered.{Gathered, gathered-none, gathered-earliest, gathered-next}
+use Rattle.analysis.proofs.columns.columns_of.Statement.{statement}
+use Rattle.analysis.proofs.columns.columns_of.Tie as tie
+
+abbrev Inv-loop : tie.InvT-loop
+Inv-loop set columns₀ count last₀ ready₀ i₀ columns last ready i = (count ≤ maxJobs) × Gathered (jobsOf set) i last ready columns
+
+abbrev μ-loop : tie.MeasureT-loop
+μ-loop set columns₀ count last₀ ready₀ i₀ columns last ready i = count - i
+
+loop-holds : tie.Need-loop-holds Inv-loop μ-loop
+loop-holds c =
+    let s = c .args .t1 in
+    (omega (arith, length-jobs s, accepted (jobsOf s) (c .pre) .few), gathered-none (jobsOf s))
+
+mul-job : tie.Need-mul-job Inv-loop μ-loop
+mul-job c = search needs
+
+element-copy-out-job : tie.Need-element-copy-out-job Inv-loop μ-loop
+element-copy-out-job c = search needs
+
+not-before-requires : tie.Need-not-before-requires Inv-loop μ-loop
+not-before-requires c κs = search needs
+
+mul-columns : tie.Need-mul-columns Inv-loop μ-loop
+mul-columns c = search needs
+
+element-write-columns : tie.Need-element-write-columns Inv-loop μ-loop
+element-write-columns c = search needs
+
+mul-columns-2 : tie.Need-mul-columns-2 Inv-loop μ-loop
+mul-columns-2 c = search needs
+
+element-write-columns-2 : tie.Need-element-write-columns-2 Inv-loop μ-loop
+element-write-columns-2 c = search needs
+
+mul-columns-3 : tie.Need-mul-columns-3 Inv-loop μ-loop
+mul-columns-3 c = search needs
+
+element-write-columns-3 : tie.Need-element-write-columns-3 Inv-loop μ-loop
+element-write-columns-3 c = search needs
+
+mul-columns-4 : tie.Need-mul-columns-4 Inv-loop μ-loop
+mul-columns-4 c = search needs
+
+element-write-columns-4 : tie.Need-element-write-columns-4 Inv-loop μ-loop
+element-write-columns-4 c = search needs
+
+larger-requires : tie.Need-larger-requires Inv-loop μ-loop
+larger-requires c κs = search needs
+
+mul-columns-5 : tie.Need-mul-columns-5 Inv-loop μ-loop
+mul-columns-5 c = search needs
+
+element-write-columns-5 : tie.Need-element-write-columns-5 Inv-loop μ-loop
+element-write-columns-5 c = search needs
+
+add-ready : tie.Need-add-ready Inv-loop μ-loop
+add-ready c =
+    let s = c .before .before .before .before .before .before .args .t1 in
+    let ok = accepted (jobsOf s) (c .before .before .before .before .before .before .pre) in
+    let l = c .before .before .before .before .before .loop in
+    let h : l .i < length (jobsOf s) = omega (arith, length-jobs s, c .before .before .before .before .loop-test .taken) in
+    let e = gathered-earliest (jobsOf s) (ok .few) (l .i) h _ (sym (job-at s (l .i) (c .before .before .before .before .loop-test .taken))) (l .inv .1) (c .before .before .not-before .result) (c .before .before .not-before .ensures) in
+    let late = accepted-latest (jobsOf s) ok (l .i) h in
+    let limits = rw (job-at s (l .i) (c .before .before .before .before .loop-test .taken)) at (ok .limits (l .i) h) in
+    search (needs, e, late, earliest-latest (jobsOf s) (l .i), limits .range, limits .time)
+
+add-i : tie.Need-add-i Inv-loop μ-loop
+add-i c = search needs
+
+loop-less : tie.Need-loop-less Inv-loop μ-loop
+loop-less c = search needs
+
+loop-again : tie.Need-loop-again Inv-loop μ-loop
+loop-again c =
+    let s = c .before .before .before .before .before .before .args .t1 in
+    let ok = accepted (jobsOf s) (c .before .before .before .before .before .before .pre) in
+    let l = c .before .before .before .before .before .loop in
+    let h : l .i < length (jobsOf s) = omega (arith, length-jobs s, c .before .before .before .before .loop-test .taken) in
+    (l .inv .0, gathered-next (jobsOf s) (ok .few) (l .i) h _ (sym (job-at s (l .i) (c .before .before .before .before .loop-test .taken))) (l .inv .1) (c .before .before .not-before .result) (c .before .before .not-before .ensures) (c .before .larger .result) (c .before .larger .ensures))
+
+returns : tie.Need-returns Inv-loop μ-loop
+returns c =
+    let s = c .before .before .args .t1 in
+    let l = c .before .loop in
+    l .inv .1 .are ∙ ap (columnsOf (tableOf (jobsOf s))) (omega (arith, length-jobs s, l .inv .1 .inside, c .loop-test .left))
+
+pub columns-of-spec : {M : Type 1} → statement M
+columns-of-spec =
+    tie.close
+    (tie.spec
+    Inv-loop
+    μ-loop
+    loop-holds
+    mul-job
+    element-copy-out-job
+    not-before-requires
+    mul-columns
+    element-write-columns
+    mul-columns-2
+    element-write-columns-2
+    mul-columns-3
+    element-write-columns-3
+    mul-columns-4
+    element-write-columns-4
+    larger-requires
+    mul-columns-5
+    element-write-columns-5
+    add-ready
+    add-i
+    loop-less
+    loop-again
+    returns)

@@ -1,0 +1,74 @@
+-- `settle` answers the theory's `itr`. The loop's invariant: the bounds are those after the rounds so far, each of which changed some. The measure is
+-- what is left of the definition's rounds, of which theory proves that they end. Assumes nothing.
+use Prim.Native.Nat.{_-_}
+use mathlib.Core.Path.{sym, _∙_}
+use native.Mathlib.Omega.{arith}
+use borrow.Author.Needs.{needs}
+use Rattle.theory.specs.Table.{Table}
+use Rattle.theory.specs.Rounds.{after, itr}
+use Rattle.analysis.specs.Kernel.{lent}
+use Rattle.analysis.proofs.Rounding.{Rounding, rounding-none, rounding-below, rounding-next, rounding-last, rounds-small}
+use Rattle.analysis.proofs.itr.settle.Statement.{statement}
+use Rattle.analysis.proofs.itr.settle.Tie as tie
+
+abbrev Inv-loop : tie.InvT-loop
+Inv-loop count chain urgency most earliest latest bounds₀ rounds₀ bounds rounds = Rounding (lent count chain urgency most earliest latest) bounds rounds
+
+abbrev μ-loop : tie.MeasureT-loop
+μ-loop count chain urgency most earliest latest bounds₀ rounds₀ bounds rounds = itr (lent count chain urgency most earliest latest) .rounds - rounds
+
+-- the table of the lent columns
+abbrev table : tie.Start Inv-loop μ-loop → Table
+table s = lent (s .args .count) (s .args .chain .now) (s .args .urgency .now) (s .args .most .now) (s .args .earliest .now) (s .args .latest .now)
+
+start-requires : tie.Need-start-requires Inv-loop μ-loop
+start-requires c κs = search needs
+
+loop-holds : tie.Need-loop-holds Inv-loop μ-loop
+unfolding after
+loop-holds c = rounding-none (table (c .before)) (c .start .result) (c .start .ensures)
+
+round-requires : tie.Need-round-requires Inv-loop μ-loop
+round-requires c κs = search needs
+
+same-bounds-requires : tie.Need-same-bounds-requires Inv-loop μ-loop
+same-bounds-requires c κs = search needs
+
+add-t18 : tie.Need-add-t18 Inv-loop μ-loop
+add-t18 c =
+    let s = c .before .before .before .before .before .before .before .before in
+    search (needs, rounding-below (table s) (c .before .before .before .before .before .before .loop .inv), rounds-small (table s) (s .pre))
+
+returns : tie.Need-returns Inv-loop μ-loop
+returns c =
+    let s = c .before .before .before .before .before .before .before .before in
+    rounding-last (table s) (c .before .before .before .before .before .before .loop .inv) (c .before .before .before .before .round .result) (c .before .before .before .before .round .ensures) (sym (c .before .same-bounds .ensures) ∙ c .if1 .taken)
+
+add-rounds : tie.Need-add-rounds Inv-loop μ-loop
+add-rounds c =
+    let s = c .before .before .before .before .before .before .before .before in
+    search (needs, rounding-below (table s) (c .before .before .before .before .before .before .loop .inv), rounds-small (table s) (s .pre))
+
+loop-less : tie.Need-loop-less Inv-loop μ-loop
+loop-less c = omega (arith, rounding-below (table (c .before .before .before .before .before .before .before .before)) (c .before .before .before .before .before .before .loop .inv))
+
+loop-again : tie.Need-loop-again Inv-loop μ-loop
+loop-again c =
+    let s = c .before .before .before .before .before .before .before .before in
+    rounding-next (table s) (c .before .before .before .before .before .before .loop .inv) (c .before .before .before .before .round .result) (c .before .before .before .before .round .ensures) (sym (c .before .same-bounds .ensures) ∙ c .if1 .left)
+
+pub settle-spec : {M : Type 1} → statement M
+settle-spec =
+    tie.close
+    (tie.spec
+    Inv-loop
+    μ-loop
+    start-requires
+    loop-holds
+    round-requires
+    same-bounds-requires
+    add-t18
+    returns
+    add-rounds
+    loop-less
+    loop-again)

@@ -1,0 +1,72 @@
+-- `round` answers the theory's. The loop's invariant: the bounds of the first j jobs stand in the array. Assumes nothing.
+use Prim.Native.Nat.{ℕ, _-_, _≤_}
+use mathlib.Core.Path.{_≡_, ap, _∙_}
+use native.Mathlib.Omega.{arith}
+use borrow.Author.Needs.{needs}
+use Rattle.laws.proofs.Filling.{filled-none, filled-next}
+use Rattle.jobs.specs.Limits.{maxJobs}
+use Rattle.theory.specs.Table.{Table}
+use Rattle.theory.specs.Bounds.{cjaWith}
+use Rattle.theory.specs.Rounds.{round}
+use Rattle.analysis.specs.Kernel.{lent, roundAt, column}
+use Rattle.analysis.proofs.round.round.Statement.{statement}
+use Rattle.analysis.proofs.round.round.Tie as tie
+
+abbrev Inv-loop : tie.InvT-loop
+Inv-loop count chain urgency most earliest latest bound bounds₀ j₀ bounds j =
+    (j ≤ count) × (bounds ≡ column j (roundAt (lent count chain urgency most earliest latest) bound))
+
+abbrev μ-loop : tie.MeasureT-loop
+μ-loop count chain urgency most earliest latest bound bounds₀ j₀ bounds j = count - j
+
+-- the table of the lent columns
+abbrev table : tie.Start Inv-loop μ-loop → Table
+table s = lent (s .args .count) (s .args .chain .now) (s .args .urgency .now) (s .args .most .now) (s .args .earliest .now) (s .args .latest .now)
+
+loop-holds : tie.Need-loop-holds Inv-loop μ-loop
+loop-holds c = (omega arith, filled-none maxJobs 0 _)
+
+largest-pair-requires : tie.Need-largest-pair-requires Inv-loop μ-loop
+largest-pair-requires c κs = search needs
+
+mul-bounds : tie.Need-mul-bounds Inv-loop μ-loop
+mul-bounds c = search needs
+
+array-write-bounds : tie.Need-array-write-bounds Inv-loop μ-loop
+array-write-bounds c = search needs
+
+add-j : tie.Need-add-j Inv-loop μ-loop
+add-j c = search needs
+
+loop-less : tie.Need-loop-less Inv-loop μ-loop
+loop-less c = search needs
+
+loop-again : tie.Need-loop-again Inv-loop μ-loop
+loop-again c =
+    let s = c .before .before .before in
+    let l = c .before .before .loop in
+    let h = c .before .loop-test .taken in
+    (omega arith, filled-next maxJobs 0 _ (l .j) (l .bounds) _ (omega (arith, s .pre .few)) (l .inv .1) (c .largest-pair .ensures))
+
+returns : tie.Need-returns Inv-loop μ-loop
+unfolding round cjaWith
+returns c =
+    let s = c .before .before in
+    let l = c .before .loop in
+    let e : l .j ≡ s .args .count = omega arith in
+    l .inv .1 ∙ ap (λ (n : ℕ). column n (roundAt (table s) (s .args .bound .now))) e
+
+pub round-spec : {M : Type 1} → statement M
+round-spec =
+    tie.close
+    (tie.spec
+    Inv-loop
+    μ-loop
+    loop-holds
+    largest-pair-requires
+    mul-bounds
+    array-write-bounds
+    add-j
+    loop-less
+    loop-again
+    returns)

@@ -1,0 +1,144 @@
+-- The answers of the public functions. Document 01, "Bounds", and the refusals of a set, of admission, and number 10.
+--   boundsWith, ertOf, cjaOf   the bounds ERT and CJA of an accepted set, or the refusal and no bounds
+--   itrWith, itrOf             the ITR bounds and the number of rounds, or the refusal, no bounds and no round
+--   slacksWith, slacksOf       the slacks, or the refusal and none
+--   figuresWith, figuresOf     all of these at once
+--   verdictIs, verdictBy       yes or no, and the verdict on accepted jobs by the algorithm 1 ERT, 2 CJA or 3 ITR, else refusal 10
+--   verdictAfter, verdictOf    the verdict on a set: its own refusals come first
+--   admitted, admissionOf      admission: the joined set on yes, the old set on no and on a refusal
+--   Counted, RoundsCounted     what the number of rounds in the ITR answer is, for every accepted set; proved in proofs/Claims
+-- Unused places of an answer are 0. Assumes nothing.
+use Prim.Native.Nat.{ℕ, _≤_, _<_, max}
+use mathlib.Core.Path.{_≡_}
+use mathlib.Core.Bool.{Bool, true, false, cond}
+use mathlib.Core.List.{List, []}
+use lib.Dec.{eqb}
+use lib.IntN.{ℤ, pos}
+use lib.ListN.{length}
+use Rattle.laws.specs.Places.{padded}
+use Rattle.jobs.specs.declared.job.Job.{Job}
+use Rattle.jobs.specs.declared.set.JobSet.{JobSet}
+use Rattle.jobs.specs.declared.refusal.Refusal.the-variants.{UnknownAlgorithm}
+use Rattle.jobs.specs.declared.refusal.Check.{Check}
+use Rattle.jobs.specs.declared.refusal.Check.the-variants.{Passed, Refused as Stopped}
+use Rattle.jobs.specs.Limits.{maxJobs}
+use Rattle.jobs.specs.Jobs.{jobsOf, setOf}
+use Rattle.jobs.specs.Checks.{checkOf}
+use Rattle.jobs.specs.Joins.{withChain, joinCheck}
+use Rattle.theory.specs.Table.{Table}
+use Rattle.theory.specs.Releases.{tableOf}
+use Rattle.theory.specs.Bounds.{ert, cja}
+use Rattle.theory.specs.Rounds.{Answer, roundLimit, itr}
+use Rattle.theory.specs.Verdicts.{slacks, meets}
+use Rattle.theory.specs.Claims.{Repeats}
+use Rattle.analysis.specs.declared.answer.Bounds.{Bounds}
+use Rattle.analysis.specs.declared.answer.Itr.{Itr}
+use Rattle.analysis.specs.declared.answer.Slacks.{Slacks}
+use Rattle.analysis.specs.declared.answer.Figures.{Figures}
+use Rattle.analysis.specs.declared.answer.Verdict.{Verdict}
+use Rattle.analysis.specs.declared.answer.Verdict.the-variants.{Yes, No, Refused}
+use Rattle.analysis.specs.declared.answer.Admission.{Admission}
+
+-- Bounds in an answer, one for each job and 0 beyond; none on a refusal.
+abbrev pub boundsWith : Check → List ℕ → Bounds
+boundsWith Passed bounds = record { check = Passed; bounds = padded maxJobs 0 bounds }
+boundsWith (Stopped refusal) bounds = record { check = Stopped refusal; bounds = padded maxJobs 0 [] }
+
+-- The ERT bounds of a set.
+unfoldable pub ertOf : JobSet → Bounds
+ertOf set = boundsWith (checkOf (jobsOf set)) (ert (tableOf (jobsOf set)))
+
+-- The CJA bounds of a set.
+unfoldable pub cjaOf : JobSet → Bounds
+cjaOf set = boundsWith (checkOf (jobsOf set)) (cja (tableOf (jobsOf set)))
+
+-- The ITR answer: its bounds, and how many rounds there were.
+abbrev pub itrWith : Check → Answer → Itr
+itrWith Passed answer = record { check = Passed; bounds = padded maxJobs 0 (answer .bounds); rounds = answer .rounds }
+itrWith (Stopped refusal) answer = record { check = Stopped refusal; bounds = padded maxJobs 0 []; rounds = 0 }
+
+-- The ITR answer of a set.
+unfoldable pub itrOf : JobSet → Itr
+itrOf set = itrWith (checkOf (jobsOf set)) (itr (tableOf (jobsOf set)))
+
+-- Slacks in an answer, one for each job and 0 beyond; none on a refusal.
+abbrev pub slacksWith : Check → List ℤ → Slacks
+slacksWith Passed each = record { check = Passed; slacks = padded maxJobs (pos 0) each }
+slacksWith (Stopped refusal) each = record { check = Stopped refusal; slacks = padded maxJobs (pos 0) [] }
+
+-- Each job's deadline less its ITR bound.
+unfoldable pub slacksOf : JobSet → Slacks
+slacksOf set = slacksWith (checkOf (jobsOf set)) (slacks (jobsOf set))
+
+-- All figures in one answer; none on a refusal.
+abbrev pub figuresWith : Check → List ℕ → List ℕ → Answer → List ℤ → Figures
+figuresWith Passed byErt byCja answer each =
+    record {
+      check = Passed;
+      ert = padded maxJobs 0 byErt;
+      cja = padded maxJobs 0 byCja;
+      itr = padded maxJobs 0 (answer .bounds);
+      rounds = answer .rounds;
+      slacks = padded maxJobs (pos 0) each;
+    }
+figuresWith (Stopped refusal) byErt byCja answer each =
+    record {
+      check = Stopped refusal;
+      ert = padded maxJobs 0 [];
+      cja = padded maxJobs 0 [];
+      itr = padded maxJobs 0 [];
+      rounds = 0;
+      slacks = padded maxJobs (pos 0) [];
+    }
+
+-- The three bounds, the rounds and the slacks of a set.
+unfoldable pub figuresOf : JobSet → Figures
+figuresOf set =
+    let js = jobsOf set in
+    figuresWith (checkOf js) (ert (tableOf js)) (cja (tableOf js)) (itr (tableOf js)) (slacks js)
+
+-- Yes where all deadlines are met.
+abbrev pub verdictIs : Bool → Verdict
+verdictIs true = Yes
+verdictIs false = No
+
+-- The verdict on accepted jobs: whether each bound is at or before its job's deadline.
+unfoldable pub verdictBy : List Job → ℕ → Verdict
+verdictBy js algorithm =
+    cond (eqb algorithm 1) (verdictIs (meets js (ert (tableOf js)) (length js)))
+    (cond (eqb algorithm 2) (verdictIs (meets js (cja (tableOf js)) (length js)))
+    (cond (eqb algorithm 3) (verdictIs (meets js (itr (tableOf js) .bounds) (length js)))
+    (Refused UnknownAlgorithm)))
+
+-- A verdict that comes after a check.
+abbrev pub verdictAfter : Check → Verdict → Verdict
+verdictAfter Passed verdict = verdict
+verdictAfter (Stopped refusal) verdict = Refused refusal
+
+-- The verdict on a set.
+unfoldable pub verdictOf : JobSet → ℕ → Verdict
+verdictOf set algorithm = verdictAfter (checkOf (jobsOf set)) (verdictBy (jobsOf set) algorithm)
+
+-- Only a yes lets the joined set in.
+abbrev pub admitted : Verdict → JobSet → JobSet → Admission
+admitted Yes old joined = record { verdict = Yes; set = joined }
+admitted No old joined = record { verdict = No; set = old }
+admitted (Refused refusal) old joined = record { verdict = Refused refusal; set = old }
+
+-- A further chain is admitted where the verdict on the joined jobs is yes; what refuses the joining comes before number 10.
+unfoldable pub admissionOf : JobSet → JobSet → ℕ → Admission
+admissionOf old new algorithm =
+    let joined = withChain (jobsOf old) (jobsOf new) in
+    admitted (verdictAfter (joinCheck (jobsOf old) (jobsOf new)) (verdictBy joined algorithm)) old (setOf joined)
+
+-- The number of rounds in the ITR answer of n jobs: it is that of the first round whose bounds equal the previous ones, it is at most n × n × (n − 1) +
+-- 2, and at most n where there is a job.
+pub record Counted (t : Table) (rounds : ℕ) : Type 0 where
+  pub repeats : Repeats t rounds
+  pub first : (n : ℕ) → n < rounds → Repeats t n → ⊥
+  pub cubic : rounds ≤ roundLimit t
+  pub few : rounds ≤ max 1 (t .count)
+
+-- `itr-rounds`: so it is for every accepted set.
+abbrev pub RoundsCounted : Type 0
+RoundsCounted = (set : JobSet) → checkOf (jobsOf set) ≡ Passed → Counted (tableOf (jobsOf set)) (itrOf set .rounds)

@@ -1,0 +1,92 @@
+-- What the contracts of the private functions speak of; no public promise cites it.
+--   lent                         the table of the jobs whose figures stand in lent columns
+--   Fit                          what the private functions ask of a table
+--   roundAt                      the bound that a round gives the job at a place
+--   weightOf, spanned            what a job counts in a pair, by its own figures and by its place
+--   entered, extended, stepped   a scan for blocks at its next job
+--   notBefore                    a time of a job that does not come before one of its predecessor
+--   column, columnsOf            a figure of each job in an array, and those of a table that the bounds are made from
+-- Assumes nothing.
+use Prim.Native.Nat.{ℕ, suc, _+_, _*_, _≤_, _<_, max}
+use mathlib.Core.Bool.{cond, _&&_}
+use mathlib.Core.List.{List}
+use lib.Dec.{leb, ltb, eqb}
+use lib.ListN.{getD}
+use Rattle.laws.specs.Places.{tabulate, padded}
+use Rattle.jobs.specs.Limits.{maxJobs, maxRelease, maxTime}
+use Rattle.theory.specs.Table.{Table}
+use Rattle.theory.specs.Bounds.{largestPair}
+use Rattle.theory.specs.Rounds.{overlap}
+use Rattle.analysis.specs.declared.scan.Scan.{Scan}
+use Rattle.analysis.specs.declared.columns.Columns.{Columns}
+
+-- The bounds do not read the least times.
+abbrev pub lent : ℕ → List ℕ → List ℕ → List ℕ → List ℕ → List ℕ → Table
+lent count chain urgency most earliest latest =
+    record {
+      count = count;
+      chain = λ i. getD chain i 0;
+      urgency = λ i. getD urgency i 0;
+      least = λ i. 0;
+      most = λ i. getD most i 0;
+      earliest = λ i. getD earliest i 0;
+      latest = λ i. getD latest i 0;
+    }
+
+-- As many jobs as a set holds, in order of their chains, with most times and releases in their limits.
+pub record Fit (t : Table) : Type 0 where
+  pub few : t .count ≤ maxJobs
+  pub ordered : (i : ℕ) → suc i < t .count → t .chain i ≤ t .chain (suc i)
+  pub mosts : (i : ℕ) → i < t .count → t .most i ≤ maxTime
+  pub early : (i : ℕ) → i < t .count → t .earliest i ≤ maxRelease + maxJobs * maxTime
+  pub late : (i : ℕ) → i < t .count → t .latest i ≤ maxRelease + maxJobs * maxTime
+
+-- The largest sum over the pairs that end with j, where the spans are by the previous bounds.
+abbrev pub roundAt : Table → List ℕ → ℕ → ℕ
+roundAt t previous j = largestPair t (overlap t previous) j (suc j)
+
+-- A job's most time where its span overlaps the one open at `from` and closed at `to`.
+unfoldable pub weightOf : ℕ → ℕ → ℕ → ℕ → ℕ → ℕ
+weightOf from to most release bound = cond (ltb from bound && ltb release to) most 0
+
+-- The same by place.
+abbrev pub spanned : List ℕ → List ℕ → List ℕ → ℕ → ℕ → ℕ → ℕ
+spanned most earliest bound from to u = weightOf from to (getD most u 0) (getD earliest u 0) (getD bound u 0)
+
+-- At a job of another chain the last chain's largest block is one of those before.
+unfoldable pub entered : Scan → ℕ → Scan
+entered s chain = cond (eqb (s .chain) chain) s (record { chain = chain; before = s .total; block = s .total; total = s .total })
+
+-- An urgent job goes on with the open block, any other ends it.
+unfoldable pub extended : Scan → ℕ → ℕ → ℕ → Scan
+extended s target urgency weight =
+    record {
+      chain = s .chain;
+      before = s .before;
+      block = cond (leb target urgency) (s .block + weight) (s .before);
+      total = cond (leb target urgency) (max (s .total) (s .block + weight)) (s .total);
+    }
+
+-- A job of the target's own chain counts nothing.
+unfoldable pub stepped : ℕ → ℕ → Scan → ℕ → ℕ → ℕ → Scan
+stepped own target s chain urgency weight =
+    cond (eqb chain own) (entered s chain) (extended (entered s chain) target urgency weight)
+
+-- A time of a job that does not come before one of its predecessor; the job before it is of chain `last`.
+unfoldable pub notBefore : ℕ → ℕ → ℕ → ℕ → ℕ
+notBefore last chain time predecessor = cond (eqb last chain) (max time predecessor) time
+
+-- A figure of the first n places in an array.
+abbrev pub column : ℕ → (ℕ → ℕ) → List ℕ
+column n f = padded maxJobs 0 (tabulate 0 n f)
+
+-- The columns that the bounds are made from, of the first n places.
+unfoldable pub columnsOf : Table → ℕ → Columns
+columnsOf t n =
+    record {
+      chain = column n (t .chain);
+      urgency = column n (t .urgency);
+      most = column n (t .most);
+      earliest = column n (t .earliest);
+      latest = column n (t .latest);
+    }

@@ -1,0 +1,51 @@
+// The answers of the analysis. Each says first whether the set was refused.
+use jobs::refusal::Check;
+use jobs::refusal::Refusal;
+use jobs::set::JobSet;
+
+// A bound for each job, 0 in the places beyond; on a refusal all are 0.
+pub struct Bounds {
+    pub check: Check,
+    pub bounds: [u64; JobSet::MAX_JOBS],
+}
+
+impl Bounds {
+    // No bound of an accepted set reaches this.
+    pub const LIMIT: u64 = 10000000000;
+}
+
+// A bound for each job, 0 in the places beyond, and the rounds with the last one; on a refusal all are 0.
+pub struct Itr {
+    pub check: Check,
+    pub bounds: [u64; JobSet::MAX_JOBS],
+    pub rounds: u64,
+}
+
+// A slack for each job, below zero where the bound is later than the deadline, and 0 in the places beyond; on a refusal all are 0.
+pub struct Slacks {
+    pub check: Check,
+    pub slacks: [i64; JobSet::MAX_JOBS],
+}
+
+// The three bounds and the slack of each job, 0 in the places beyond, and the rounds of ITR; on a refusal all are 0.
+pub struct Figures {
+    pub check: Check,
+    pub ert: [u64; JobSet::MAX_JOBS],
+    pub cja: [u64; JobSet::MAX_JOBS],
+    pub itr: [u64; JobSet::MAX_JOBS],
+    pub rounds: u64,
+    pub slacks: [i64; JobSet::MAX_JOBS],
+}
+
+// Yes where each job's bound is at or before its deadline.
+pub enum Verdict {
+    Yes,
+    No,
+    Refused(Refusal),
+}
+
+// The verdict, and the joined set on yes, else the old set as it was.
+pub struct Admission {
+    pub verdict: Verdict,
+    pub set: JobSet,
+}

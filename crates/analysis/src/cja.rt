@@ -1,0 +1,50 @@
+// The CJA bounds.
+ghost use mathlib.Core.Path.{_≡_};
+ghost use Rattle.laws.specs.Places.{padded};
+ghost use Rattle.jobs.specs.Limits.{maxJobs};
+ghost use Rattle.jobs.specs.Jobs.{jobsOf};
+ghost use Rattle.jobs.specs.Checks.{checkOf};
+ghost use Rattle.theory.specs.Releases.{tableOf};
+ghost use Rattle.theory.specs.Bounds.{cja as Theory·cja};
+ghost use Rattle.analysis.specs.Analysis.{cjaOf};
+use crate::answer::Bounds;
+use crate::columns::columns_of;
+use crate::round::round;
+use jobs::check::check;
+use jobs::refusal::Check;
+use jobs::set::JobSet;
+
+// The CJA bounds of an accepted set: a round after bounds so late that each job counts.
+pub(crate) fn accepted_cja(set: JobSet) -> [u64; JobSet::MAX_JOBS]
+    requires { ⌜ checkOf (jobsOf set) ≡ Check.Passed ⌝ }
+    ensures { λ r. ⌜ r ≡ padded maxJobs 0 (Theory·cja (tableOf (jobsOf set))) ⌝ }
+{
+    let count = set.count;
+    let columns = columns_of(set);
+    let late = [Bounds::LIMIT; JobSet::MAX_JOBS];
+    round(
+        count,
+        &columns.chain,
+        &columns.urgency,
+        &columns.most,
+        &columns.earliest,
+        &columns.latest,
+        &late,
+    )
+}
+
+// The CJA bounds of all jobs.
+pub fn cja(set: JobSet) -> Bounds
+    ensures { λ r. ⌜ r ≡ cjaOf set ⌝ }
+{
+    if let Check::Refused(refusal) = check(set) {
+        return Bounds {
+            check: Check::Refused(refusal),
+            bounds: [0u64; JobSet::MAX_JOBS],
+        };
+    }
+    Bounds {
+        check: Check::Passed,
+        bounds: accepted_cja(set),
+    }
+}

@@ -1,0 +1,88 @@
+// The ERT bounds.
+ghost use mathlib.Core.Path.{_≡_};
+ghost use Rattle.laws.specs.Places.{padded};
+ghost use Rattle.jobs.specs.Limits.{maxJobs};
+ghost use Rattle.jobs.specs.Jobs.{jobsOf};
+ghost use Rattle.jobs.specs.Checks.{checkOf};
+ghost use Rattle.theory.specs.Releases.{tableOf};
+ghost use Rattle.theory.specs.Bounds.{ert as Theory·ert};
+ghost use Rattle.analysis.specs.Analysis.{ertOf};
+ghost use Rattle.analysis.specs.Kernel.{lent, Fit};
+use crate::answer::Bounds;
+use crate::columns::columns_of;
+use crate::interference::interference;
+use crate::predecessor::not_before;
+use jobs::check::check;
+use jobs::refusal::Check;
+use jobs::set::JobSet;
+
+// By the ERT rule, job by job; the bound of every job is so late that each of them counts.
+fn by_rule<'a>(
+    count: usize,
+    chain: &'a [u64; JobSet::MAX_JOBS],
+    urgency: &'a [u64; JobSet::MAX_JOBS],
+    most: &'a [u64; JobSet::MAX_JOBS],
+    earliest: &'a [u64; JobSet::MAX_JOBS],
+    latest: &'a [u64; JobSet::MAX_JOBS],
+) -> [u64; JobSet::MAX_JOBS]
+    requires { ⌜ Fit (lent count (now chain) (now urgency) (now most) (now earliest) (now latest)) ⌝ }
+    ensures { λ r. ⌜ r ≡ padded maxJobs 0 (Theory·ert (lent count (now (chain .entry)) (now (urgency .entry)) (now (most .entry)) (now (earliest .entry)) (now (latest .entry)))) ⌝ }
+{
+    let late = [Bounds::LIMIT; JobSet::MAX_JOBS];
+    let mut bounds = [0u64; JobSet::MAX_JOBS];
+    let mut last: u64 = 0;
+    let mut bound: u64 = 0;
+    let mut i: usize = 0;
+    while i < count {
+        let delay = interference(
+            count,
+            chain,
+            urgency,
+            most,
+            earliest,
+            &late,
+            chain[i],
+            urgency[i],
+            0,
+            Bounds::LIMIT,
+        );
+        bound = not_before(last, chain[i], latest[i], bound) + most[i] + delay;
+        bounds[i] = bound;
+        last = chain[i];
+        i += 1;
+    }
+    bounds
+}
+
+// The ERT bounds of an accepted set.
+pub(crate) fn accepted_ert(set: JobSet) -> [u64; JobSet::MAX_JOBS]
+    requires { ⌜ checkOf (jobsOf set) ≡ Check.Passed ⌝ }
+    ensures { λ r. ⌜ r ≡ padded maxJobs 0 (Theory·ert (tableOf (jobsOf set))) ⌝ }
+{
+    let count = set.count;
+    let columns = columns_of(set);
+    by_rule(
+        count,
+        &columns.chain,
+        &columns.urgency,
+        &columns.most,
+        &columns.earliest,
+        &columns.latest,
+    )
+}
+
+// The ERT bounds of all jobs.
+pub fn ert(set: JobSet) -> Bounds
+    ensures { λ r. ⌜ r ≡ ertOf set ⌝ }
+{
+    if let Check::Refused(refusal) = check(set) {
+        return Bounds {
+            check: Check::Refused(refusal),
+            bounds: [0u64; JobSet::MAX_JOBS],
+        };
+    }
+    Bounds {
+        check: Check::Passed,
+        bounds: accepted_ert(set),
+    }
+}

@@ -1,0 +1,121 @@
+// The ITR bounds, and the number of rounds that they take.
+ghost use mathlib.Core.Path.{_≡_};
+ghost use Prim.Native.Nat.{_≤_};
+ghost use Rattle.jobs.specs.Limits.{maxJobs};
+ghost use Rattle.laws.specs.Places.{padded};
+ghost use Rattle.jobs.specs.Jobs.{jobsOf};
+ghost use Rattle.jobs.specs.Checks.{checkOf};
+ghost use Rattle.theory.specs.Releases.{tableOf};
+ghost use Rattle.theory.specs.Rounds.{itrStart, sameBounds, itr as Theory·itr};
+ghost use Rattle.analysis.specs.Analysis.{itrWith, itrOf};
+ghost use Rattle.analysis.specs.Kernel.{lent, Fit};
+use crate::answer::Itr;
+use crate::columns::columns_of;
+use crate::predecessor::not_before;
+use crate::round::round;
+use jobs::check::check;
+use jobs::refusal::Check;
+use jobs::set::JobSet;
+
+// The bounds to start from: the ERT rule with interference 0.
+fn start<'a>(
+    count: usize,
+    chain: &'a [u64; JobSet::MAX_JOBS],
+    urgency: &'a [u64; JobSet::MAX_JOBS],
+    most: &'a [u64; JobSet::MAX_JOBS],
+    earliest: &'a [u64; JobSet::MAX_JOBS],
+    latest: &'a [u64; JobSet::MAX_JOBS],
+) -> [u64; JobSet::MAX_JOBS]
+    requires { ⌜ Fit (lent count (now chain) (now urgency) (now most) (now earliest) (now latest)) ⌝ }
+    ensures { λ r. ⌜ r ≡ padded maxJobs 0 (itrStart (lent count (now (chain .entry)) (now (urgency .entry)) (now (most .entry)) (now (earliest .entry)) (now (latest .entry)))) ⌝ }
+{
+    let mut bounds = [0u64; JobSet::MAX_JOBS];
+    let mut last: u64 = 0;
+    let mut bound: u64 = 0;
+    let mut i: usize = 0;
+    while i < count {
+        bound = not_before(last, chain[i], latest[i], bound) + most[i];
+        bounds[i] = bound;
+        last = chain[i];
+        i += 1;
+    }
+    bounds
+}
+
+// Whether the first count bounds are the same.
+fn same_bounds<'a, 'b>(
+    count: usize,
+    next: &'a [u64; JobSet::MAX_JOBS],
+    previous: &'b [u64; JobSet::MAX_JOBS],
+) -> bool
+    requires { ⌜ count ≤ maxJobs ⌝ }
+    ensures { λ r. ⌜ r ≡ sameBounds count (now (next .entry)) (now (previous .entry)) ⌝ }
+{
+    let mut i: usize = 0;
+    while i < count {
+        if next[i] != previous[i] {
+            return false;
+        }
+        i += 1;
+    }
+    true
+}
+
+// Rounds until one changes no bound; that one counts.
+fn settle<'a>(
+    count: usize,
+    chain: &'a [u64; JobSet::MAX_JOBS],
+    urgency: &'a [u64; JobSet::MAX_JOBS],
+    most: &'a [u64; JobSet::MAX_JOBS],
+    earliest: &'a [u64; JobSet::MAX_JOBS],
+    latest: &'a [u64; JobSet::MAX_JOBS],
+) -> Itr
+    requires { ⌜ Fit (lent count (now chain) (now urgency) (now most) (now earliest) (now latest)) ⌝ }
+    ensures { λ r. ⌜ r ≡ itrWith Check.Passed (Theory·itr (lent count (now (chain .entry)) (now (urgency .entry)) (now (most .entry)) (now (earliest .entry)) (now (latest .entry)))) ⌝ }
+{
+    let mut bounds = start(count, chain, urgency, most, earliest, latest);
+    let mut rounds: u64 = 0;
+    loop {
+        let next = round(count, chain, urgency, most, earliest, latest, &bounds);
+        if same_bounds(count, &next, &bounds) {
+            return Itr {
+                check: Check::Passed,
+                bounds: next,
+                rounds: rounds + 1,
+            };
+        }
+        bounds = next;
+        rounds += 1;
+    }
+}
+
+// The ITR answer of an accepted set.
+pub(crate) fn accepted_itr(set: JobSet) -> Itr
+    requires { ⌜ checkOf (jobsOf set) ≡ Check.Passed ⌝ }
+    ensures { λ r. ⌜ r ≡ itrWith Check.Passed (Theory·itr (tableOf (jobsOf set))) ⌝ }
+{
+    let count = set.count;
+    let columns = columns_of(set);
+    settle(
+        count,
+        &columns.chain,
+        &columns.urgency,
+        &columns.most,
+        &columns.earliest,
+        &columns.latest,
+    )
+}
+
+// The ITR bounds of all jobs, and the number of rounds.
+pub fn itr(set: JobSet) -> Itr
+    ensures { λ r. ⌜ r ≡ itrOf set ⌝ }
+{
+    if let Check::Refused(refusal) = check(set) {
+        return Itr {
+            check: Check::Refused(refusal),
+            bounds: [0u64; JobSet::MAX_JOBS],
+            rounds: 0,
+        };
+    }
+    accepted_itr(set)
+}

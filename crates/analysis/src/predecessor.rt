@@ -1,0 +1,14 @@
+// What a job takes over from its predecessor, where it has one.
+ghost use mathlib.Core.Path.{_≡_};
+ghost use Rattle.analysis.specs.Kernel.{notBefore};
+use crate::number::larger;
+
+// A time of a job that does not come before one of its predecessor; the job before it in the table is of chain `last`.
+pub(crate) fn not_before(last: u64, chain: u64, time: u64, predecessor: u64) -> u64
+    ensures { λ r. ⌜ r ≡ notBefore last chain time predecessor ⌝ }
+{
+    if last == chain {
+        return larger(time, predecessor);
+    }
+    time
+}

@@ -1,0 +1,24 @@
+-- `negated` answers the number negated. Assumes nothing.
+use native.Mathlib.Omega.{arith}
+use lib.IntN.{+ℤ-idl}
+use mir.Syntax.{w64}
+use mir.Facts.{toZ-pos, toZ-ofZ}
+use borrow.Author.Needs.{needs}
+use Rattle.cudlomer.proofs.Negation.{neg-fits}
+use Rattle.cudlomer.proofs.negated.Statement.{statement}
+use Rattle.cudlomer.proofs.negated.Tie as tie
+
+number-requires : tie.Need-number-requires
+number-requires c κs = search needs
+
+cast-result : tie.Need-cast-result
+cast-result c = search needs
+
+sub-result : tie.Need-sub-result
+sub-result c = rw (toZ-pos w64 {n = c .number .result} (omega arith), +ℤ-idl) (neg-fits (c .number .result) (omega arith))
+
+returns : tie.Need-returns
+returns c = rw (toZ-pos w64 {n = c .number .result} (omega arith), +ℤ-idl, ← c .number .ensures) (toZ-ofZ (neg-fits (c .number .result) (omega arith)))
+
+pub negated-spec : {M : Type 1} → statement M
+negated-spec = tie.close (tie.spec number-requires cast-result sub-result returns)

@@ -1,0 +1,45 @@
+-- Answers as C sees them. Document 01, "Programs and the C side".
+--   refusalCode      the number of the refusal, negated
+--   writtenCode      the bytes written, or that
+--   verdictCode      1 for yes, 0 for no, or that
+--   verdictOfTable   the verdict on a table's text; the refusals of reading come first
+--   roundsOfTable    the rounds of ITR, or the refusal of reading
+-- Assumes nothing.
+use Prim.Native.Nat.{ℕ}
+use mathlib.Core.List.{List}
+use lib.IntN.{ℤ, pos, negℤ}
+use Rattle.jobs.specs.declared.refusal.Refusal.{Refusal}
+use Rattle.jobs.specs.declared.refusal.Check.{Check}
+use Rattle.jobs.specs.declared.refusal.Check.the-variants.{Passed, Refused as Stopped}
+use Rattle.jobs.specs.Refusals.{numberOf}
+use Rattle.jobs.specs.Jobs.{jobsOf}
+use Rattle.table.specs.Tables.{readingOf}
+use Rattle.theory.specs.Releases.{tableOf}
+use Rattle.theory.specs.Rounds.{itr}
+use Rattle.analysis.specs.declared.answer.Verdict.{Verdict}
+use Rattle.analysis.specs.declared.answer.Verdict.the-variants.{Yes, No, Refused}
+use Rattle.analysis.specs.Analysis.{verdictAfter, verdictBy}
+use Rattle.report.specs.declared.written.Written.{Written}
+use Rattle.report.specs.declared.written.Written.the-variants.{Bytes, Refused as Unwritten}
+
+abbrev pub refusalCode : Refusal → ℤ
+refusalCode refusal = negℤ (pos (numberOf refusal))
+
+abbrev pub writtenCode : Written → ℤ
+writtenCode (Bytes n) = pos n
+writtenCode (Unwritten refusal) = refusalCode refusal
+
+abbrev pub verdictCode : Verdict → ℤ
+verdictCode Yes = pos 1
+verdictCode No = pos 0
+verdictCode (Refused refusal) = refusalCode refusal
+
+unfoldable pub verdictOfTable : List ℕ → ℕ → Verdict
+verdictOfTable text algorithm = let reading = readingOf text in verdictAfter (reading .check) (verdictBy (jobsOf (reading .set)) algorithm)
+
+abbrev pub roundsAfter : Check → ℕ → ℤ
+roundsAfter Passed n = pos n
+roundsAfter (Stopped refusal) n = refusalCode refusal
+
+unfoldable pub roundsOfTable : List ℕ → ℤ
+roundsOfTable text = let reading = readingOf text in roundsAfter (reading .check) (itr (tableOf (jobsOf (reading .set))) .rounds)

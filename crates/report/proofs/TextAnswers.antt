@@ -1,0 +1,57 @@
+-- Whole texts: the answer of a writer, and the figures of an accepted set as rows. Assumes nothing.
+use Prim.Native.Nat.{ℕ, zero, suc, _≤_, _<_}
+use mathlib.Core.List.{List, _++_}
+use mathlib.Core.Path.{_≡_, refl, sym, ap, ap₂, _∙_}
+use native.Mathlib.Omega.{arith}
+use lib.IntN.{ℤ, pos}
+use lib.ListN.{length}
+use borrow.Author.Tests.{le-leb, lt-leb}
+use Rattle.laws.specs.Places.{padded}
+use Rattle.laws.proofs.Lists.{getD-padded}
+use Rattle.jobs.specs.declared.set.JobSet.{JobSet}
+use Rattle.jobs.specs.declared.refusal.Refusal.the-variants.{ShortBuffer}
+use Rattle.jobs.specs.declared.refusal.Check.the-variants.{Passed}
+use Rattle.jobs.specs.Limits.{maxJobs}
+use Rattle.jobs.specs.Jobs.{jobsOf}
+use Rattle.jobs.specs.Checks.{checkOf}
+use Rattle.jobs.proofs.Sets.{length-jobs, job-at}
+use Rattle.analysis.specs.declared.answer.Figures.{Figures}
+use Rattle.analysis.specs.Analysis.{figuresWith, figuresOf}
+use Rattle.theory.specs.Releases.{tableOf}
+use Rattle.theory.specs.Bounds.{ert, cja}
+use Rattle.theory.specs.Rounds.{itr}
+use Rattle.theory.specs.Verdicts.{slacks}
+use Rattle.report.specs.declared.written.Written.the-variants.{Bytes, Refused}
+use Rattle.report.specs.Rows.{boundsRows}
+use Rattle.report.specs.Texts.{boundsHeader, boundsText, answerTo}
+
+pub answer-short : (text buffer : List ℕ) → length buffer < length text → Refused ShortBuffer ≡ answerTo text buffer
+unfolding answerTo
+answer-short text buffer h = rw (lt-leb (length text) (length buffer) h)
+
+pub answer-fits : (text buffer : List ℕ) (n : ℕ) → length text ≤ length buffer → n ≡ length text → Bytes n ≡ answerTo text buffer
+unfolding answerTo
+answer-fits text buffer n h e = rw (le-leb (length text) (length buffer) h, e)
+
+-- ---- arrays that hold no more than their lists give the same rows
+rows-padded : (s : JobSet) (byErt byCja byItr : List ℕ) (each : List ℤ) (n : ℕ) → n ≤ s .count
+  → boundsRows (s .jobs) (padded maxJobs 0 byErt) (padded maxJobs 0 byCja) (padded maxJobs 0 byItr) (padded maxJobs (pos 0) each) n ≡ boundsRows (jobsOf s) byErt byCja byItr each n
+unfolding boundsRows
+rows-padded s byErt byCja byItr each zero h = refl
+rows-padded s byErt byCja byItr each (suc n) h =
+    ap₂ (λ (a b : List ℕ). a ++ b) (rows-padded s byErt byCja byItr each n (omega arith))
+    (rw (getD-padded maxJobs 0 byErt n, getD-padded maxJobs 0 byCja n, getD-padded maxJobs 0 byItr n, getD-padded maxJobs (pos 0) each n, job-at s n h))
+
+-- the rows of a set's figures
+abbrev pub figureRows : JobSet → Figures → List ℕ
+figureRows s figures = boundsRows (s .jobs) (figures .ert) (figures .cja) (figures .itr) (figures .slacks) (s .count)
+
+pub figures-text : (s : JobSet) (figures : Figures) → figures ≡ figuresOf s → checkOf (jobsOf s) ≡ Passed → boundsHeader ++ figureRows s figures ≡ boundsText (jobsOf s)
+unfolding boundsText figuresOf
+figures-text s figures e passed =
+    let js = jobsOf s in
+    let t = tableOf js in
+    let f : figures ≡ figuresWith Passed (ert t) (cja t) (itr t) (slacks js) = e ∙ rw passed in
+    ap (λ (l : List ℕ). boundsHeader ++ l)
+    (ap (figureRows s) f ∙ rows-padded s (ert t) (cja t) (itr t .bounds) (slacks js) (s .count) (omega arith)
+    ∙ ap (boundsRows js (ert t) (cja t) (itr t .bounds) (slacks js)) (sym (length-jobs s)))

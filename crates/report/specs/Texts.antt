@@ -1,0 +1,53 @@
+-- Whole texts in a lent buffer. Document 01, "Programs and the C side", and number 9.
+--   boundsText                 the bounds text of a list of jobs
+--   answerTo                   how many bytes a text takes in a buffer, or refusal 9
+--   answerAfter, leftAfter     the answer and the buffer, where a check comes before
+--   boundsAnswer, boundsLeft   the same for the bounds text of a table
+-- Assumes nothing.
+use Prim.Native.Nat.{ℕ}
+use mathlib.Core.Bool.{cond}
+use mathlib.Core.List.{List, _++_}
+use lib.Dec.{leb}
+use lib.ListN.{length}
+use Rattle.laws.specs.Text.{ascii}
+use Rattle.decimal.specs.Writing.{written}
+use Rattle.jobs.specs.declared.job.Job.{Job}
+use Rattle.jobs.specs.declared.refusal.Refusal.the-variants.{ShortBuffer}
+use Rattle.jobs.specs.declared.refusal.Check.{Check}
+use Rattle.jobs.specs.declared.refusal.Check.the-variants.{Passed, Refused as Stopped}
+use Rattle.jobs.specs.Jobs.{jobsOf}
+use Rattle.table.specs.Tables.{readingOf}
+use Rattle.theory.specs.Releases.{tableOf}
+use Rattle.theory.specs.Bounds.{ert, cja}
+use Rattle.theory.specs.Rounds.{itr}
+use Rattle.theory.specs.Verdicts.{slacks}
+use Rattle.report.specs.declared.written.Written.{Written}
+use Rattle.report.specs.declared.written.Written.the-variants.{Bytes, Refused}
+use Rattle.report.specs.Rows.{boundsRows}
+
+abbrev pub boundsHeader : List ℕ
+boundsHeader = ascii "chain,job,ert,cja,itr,slack\r\n"
+
+-- A row for each job, in table order.
+unfoldable pub boundsText : List Job → List ℕ
+boundsText js =
+    let t = tableOf js in
+    boundsHeader ++ boundsRows js (ert t) (cja t) (itr t .bounds) (slacks js) (length js)
+
+unfoldable pub answerTo : List ℕ → List ℕ → Written
+answerTo text buffer = cond (leb (length text) (length buffer)) (Bytes (length text)) (Refused ShortBuffer)
+
+abbrev pub answerAfter : Check → List ℕ → List ℕ → Written
+answerAfter Passed text buffer = answerTo text buffer
+answerAfter (Stopped refusal) text buffer = Refused refusal
+
+-- A text that does not fit leaves the buffer too (`written`).
+abbrev pub leftAfter : Check → List ℕ → List ℕ → List ℕ
+leftAfter Passed text buffer = written text buffer
+leftAfter (Stopped refusal) text buffer = buffer
+
+unfoldable pub boundsAnswer : List ℕ → List ℕ → Written
+boundsAnswer table buffer = let reading = readingOf table in answerAfter (reading .check) (boundsText (jobsOf (reading .set))) buffer
+
+unfoldable pub boundsLeft : List ℕ → List ℕ → List ℕ
+boundsLeft table buffer = let reading = readingOf table in leftAfter (reading .check) (boundsText (jobsOf (reading .set))) buffer

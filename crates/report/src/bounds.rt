@@ -1,0 +1,47 @@
+// The bounds text of a table.
+ghost use mathlib.Core.Path.{_≡_};
+ghost use mathlib.Core.List.{_++_};
+ghost use Prim.Native.Nat.{_≤_};
+ghost use Rattle.decimal.specs.Writing.{written as Decimal·written};
+ghost use Rattle.jobs.specs.Limits.{maxJobs};
+ghost use Rattle.report.specs.Rows.{boundsRows};
+ghost use Rattle.report.specs.Texts.{boundsHeader, answerTo, boundsAnswer, boundsLeft};
+use crate::columns::write_bytes;
+use crate::rows::rows_length;
+use crate::rows::write_rows;
+use crate::written::Written;
+use analysis::answer::Figures;
+use analysis::figures::figures;
+use jobs::refusal::Check;
+use jobs::refusal::Refusal;
+use jobs::set::JobSet;
+
+const HEADER: [u8; 29] = *b"chain,job,ert,cja,itr,slack\r\n";
+
+// Writes the header and the rows; the length is worked out first, so that a short buffer stays as it was.
+fn write_bounds(set: JobSet, figures: Figures, out: &mut [u8]) -> Written
+    requires { ⌜ set .count ≤ maxJobs ⌝ }
+    ensures { λ r. ⌜ (r ≡ answerTo (boundsHeader ++ boundsRows (set .jobs) (figures .ert) (figures .cja) (figures .itr) (figures .slacks) (set .count)) (now (out .entry))) × (now (out .exit) ≡ Decimal·written (boundsHeader ++ boundsRows (set .jobs) (figures .ert) (figures .cja) (figures .itr) (figures .slacks) (set .count)) (now (out .entry))) ⌝ }
+{
+    let header = HEADER;
+    let length = header.len() + rows_length(set, &figures.ert, &figures.cja, &figures.itr, &figures.slacks);
+    if out.len() < length {
+        return Written::Refused(Refusal::ShortBuffer);
+    }
+    let at = write_bytes(&header, out, 0);
+    write_rows(set, &figures.ert, &figures.cja, &figures.itr, &figures.slacks, out, at);
+    Written::Bytes(length as u32)
+}
+
+// From the text of a table to the text of its bounds: the refusals of reading first, then 9.
+pub fn bounds_text(text: &[u8], out: &mut [u8]) -> Written
+    ensures { λ r. ⌜ (r ≡ boundsAnswer (now (text .entry)) (now (out .entry))) × (now (out .exit) ≡ boundsLeft (now (text .entry)) (now (out .entry))) ⌝ }
+{
+    let reading = table::reading::read(text);
+    let check = reading.check;
+    if let Check::Refused(refusal) = check {
+        return Written::Refused(refusal);
+    }
+    let set = reading.set;
+    write_bounds(set, figures(set), out)
+}
