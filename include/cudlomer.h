@@ -34,10 +34,6 @@ extern "C" {
  * them stays. 8,192 bytes are enough for every table. */
 int64_t cudlomer_bounds(const uint8_t *text, size_t text_length, uint8_t *out, size_t out_length);
 
-/* Writes `chain,job,from,to` and a row for each span of the run in which every job takes its most time, in the same manner. 16,384 bytes are
- * enough for every table. The run is walked tick by tick, so that a table with late releases takes long. */
-int64_t cudlomer_trace(const uint8_t *text, size_t text_length, uint8_t *out, size_t out_length);
-
 /* Answers 1 where each job's bound is at or before its deadline, and 0 where one is not; the algorithm is 1 ERT, 2 CJA or 3 ITR. */
 int64_t cudlomer_verdict(const uint8_t *text, size_t text_length, uint8_t algorithm);
 

@@ -1,82 +1,50 @@
-// Prints, for each file named as an argument, one line: the name, and what reading the file as a job table comes to.
-use jobs::job::Job;
-use jobs::refusal::Check;
-use jobs::set::JobSet;
-use libc::STDOUT_FILENO;
-use table::reading::MAX_TEXT;
+// Prints one line for each case named as an argument: its name, and what the part makes of the tables kept under it.
+//   reading/NAME     what reading the file comes to
+//   bounds/NAME      rounds, verdicts by algorithm 1 to 4, and the bounds and slack of the last jobs
+//   admission/NAME   what the chain of the next argument, with/NAME, comes to that asks to join, by algorithm 1 to 4
+ghost use Prim.Native.Nat.{_+_, _<_, _^_};
 
-fn print(text: &[u8]) {
-    io::write_all(STDOUT_FILENO, text);
-}
+mod admission;
+mod bounds;
+mod print;
+mod tables;
 
-fn print_number(value: u64) {
-    io::print_decimal(STDOUT_FILENO, value);
-}
+use crate::admission::print_admission;
+use crate::bounds::print_bounds;
+use crate::print::print;
+use crate::tables::print_reading;
 
-fn print_column(value: u64) {
-    print(b",");
-    print_number(value);
-}
-
-// A job in the order of the columns.
-fn print_job(job: Job) {
-    print_number(job.chain);
-    print_column(job.job);
-    print_column(job.release);
-    print_column(job.priority);
-    print_column(job.least);
-    print_column(job.most);
-    print_column(job.deadline);
-}
-
-// How many jobs there are, and the last of them.
-fn print_set(set: JobSet) {
-    let count = set.count;
-    print(b"accepted ");
-    print_number(count as u64);
-    if 0 < count {
-        if count <= JobSet::MAX_JOBS {
-            print(b", the last ");
-            print_job(set.jobs[count - 1]);
-        }
-    }
-}
-
-// A buffer of one byte more than the limit tells a text that is too long.
-fn print_reading(file: i32) {
-    let mut text = [0u8; MAX_TEXT + 1];
-    let length = io::read_full(file, &mut text);
-    let reading = table::reading::read(&text[..length]);
-    let check = reading.check;
-    match check {
-        Check::Refused(refusal) => {
-            print(b"refused,");
-            print_number(refusal.number() as u64);
-        }
-        Check::Passed => {
-            let set = reading.set;
-            print_set(set);
-        }
-    }
-}
-
-fn print_case(name: &[u8]) {
-    print(name);
-    print(b": ");
-    let file = os::open_read(name);
-    if file < 0 {
-        print(b"no such file\n");
+// The first letter of the name tells what is asked.
+fn print_case(name: &[u8], next: &[u8]) {
+    if name.len() == 0 {
         return;
     }
-    print_reading(file);
-    libc::close(file);
+    let kind = name[0];
+    if kind == b'w' {
+        return;
+    }
+    print(name);
+    print(b":");
+    if kind == b'r' {
+        print_reading(name);
+    }
+    if kind == b'b' {
+        print_bounds(name);
+    }
+    if kind == b'a' {
+        print_admission(name, next);
+    }
     print(b"\n");
 }
 
-fn print_argument(i: usize) {
+fn print_argument(i: usize)
+    requires { ⌜ i + 1 < 2 ^ 64 ⌝ }
+{
     let mut name = [0u8; 64];
     let length = os::arg(i, &mut name);
-    print_case(&name[..length]);
+    let mut next = [0u8; 64];
+    let next_length = os::arg(i + 1, &mut next);
+    print_case(&name[..length], &next[..next_length]);
 }
 
 fn main() {

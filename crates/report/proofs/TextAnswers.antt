@@ -35,7 +35,7 @@ answer-fits text buffer n h e = rw (le-leb (length text) (length buffer) h, e)
 
 -- ---- arrays that hold no more than their lists give the same rows
 rows-padded : (s : JobSet) (byErt byCja byItr : List ℕ) (each : List ℤ) (n : ℕ) → n ≤ s .count
-  → boundsRows (s .jobs) (padded maxJobs 0 byErt) (padded maxJobs 0 byCja) (padded maxJobs 0 byItr) (padded maxJobs (pos 0) each) n ≡ boundsRows (jobsOf s) byErt byCja byItr each n
+    → boundsRows (s .jobs) (padded maxJobs 0 byErt) (padded maxJobs 0 byCja) (padded maxJobs 0 byItr) (padded maxJobs (pos 0) each) n ≡ boundsRows (jobsOf s) byErt byCja byItr each n
 unfolding boundsRows
 rows-padded s byErt byCja byItr each zero h = refl
 rows-padded s byErt byCja byItr each (suc n) h =

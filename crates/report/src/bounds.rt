@@ -24,12 +24,27 @@ fn write_bounds(set: JobSet, figures: Figures, out: &mut [u8]) -> Written
     ensures { λ r. ⌜ (r ≡ answerTo (boundsHeader ++ boundsRows (set .jobs) (figures .ert) (figures .cja) (figures .itr) (figures .slacks) (set .count)) (now (out .entry))) × (now (out .exit) ≡ Decimal·written (boundsHeader ++ boundsRows (set .jobs) (figures .ert) (figures .cja) (figures .itr) (figures .slacks) (set .count)) (now (out .entry))) ⌝ }
 {
     let header = HEADER;
-    let length = header.len() + rows_length(set, &figures.ert, &figures.cja, &figures.itr, &figures.slacks);
+    let length = header.len()
+        + rows_length(
+            set,
+            &figures.ert,
+            &figures.cja,
+            &figures.itr,
+            &figures.slacks,
+        );
     if out.len() < length {
         return Written::Refused(Refusal::ShortBuffer);
     }
     let at = write_bytes(&header, out, 0);
-    write_rows(set, &figures.ert, &figures.cja, &figures.itr, &figures.slacks, out, at);
+    write_rows(
+        set,
+        &figures.ert,
+        &figures.cja,
+        &figures.itr,
+        &figures.slacks,
+        out,
+        at,
+    );
     Written::Bytes(length as u32)
 }
 

@@ -58,13 +58,6 @@ fn main() {
                 black_box(text::bounds_text(&table::read(black_box(&table)).unwrap()));
             });
             row("bounds", jobs, chains, part, plain);
-            let part = time(|| {
-                black_box(cudlomer::trace(black_box(&table), &mut buffer).unwrap());
-            });
-            let plain = time(|| {
-                black_box(text::trace_text(&table::read(black_box(&table)).unwrap()));
-            });
-            row("trace", jobs, chains, part, plain);
             // An algorithm that there is not is refused once the table is read.
             let part = time(|| {
                 black_box(cudlomer::verdict(black_box(&table), 9).unwrap_err());

@@ -4,10 +4,8 @@ mod draw;
 
 use cudlomer::Refused;
 use draw::{Draw, Kind};
-use reference::{bounds, table, text, Job};
+use reference::{bounds, table, text};
 
-/// A run of this many ticks at most is compared as a trace.
-const TICKS: u64 = 100_000;
 const FILL: u8 = 0xa5;
 
 struct Tally {
@@ -47,16 +45,9 @@ fn compare_text(tally: &mut Tally, what: &str, table: &[u8], write: Writer, want
     }
 }
 
-fn run_length(jobs: &[Job]) -> u64 {
-    jobs.iter().map(|j| j.most).sum::<u64>() + jobs.iter().map(|j| j.release + j.least).max().unwrap_or(0)
-}
-
 fn compare_table(tally: &mut Tally, table: &[u8]) {
     let jobs = table::read(table);
     compare_text(tally, "bounds", table, cudlomer::bounds, &jobs.as_ref().map(|j| text::bounds_text(j)).map_err(|n| *n));
-    if jobs.as_ref().map_or(0, |j| run_length(j)) <= TICKS {
-        compare_text(tally, "trace", table, cudlomer::trace, &jobs.as_ref().map(|j| text::trace_text(j)).map_err(|n| *n));
-    }
     let figures = jobs.as_ref().map(|j| bounds::bounds(j)).map_err(|n| *n);
     let rounds = figures.as_ref().map(|f| f.rounds).map_err(|n| *n);
     tally.same("rounds", table, cudlomer::rounds(table).map_err(|r| r.0), rounds);

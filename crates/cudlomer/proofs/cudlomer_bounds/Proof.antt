@@ -17,7 +17,7 @@ same-length : tie.Need-same-length
 same-length c = search needs
 
 returns : tie.Need-returns
-returns c = 
+returns c =
     (toZ-ofZ {w = w64} {z = c .code-of .result} (record { sfits = c .code-of .ok }) ∙ c .code-of .ensures ∙ ap writtenCode (c .before .before .before .bounds-text .ensures .0), c .before .before .before .bounds-text .ensures .1)
 
 pub cudlomer-bounds-spec : {M : Type 1} → statement M

@@ -52,7 +52,7 @@ negated-requires c κs = search needs
 
 returns : tie.Need-returns
 unfolding roundsOfTable
-returns c = 
+returns c =
     rw (ap (λ (r : Reading). r .check) (sym (c .before .before .before .before .read .ensures)) ∙ c .before .before .check .given .1)
     (toZ-ofZ {w = w64} {z = c .negated .result} (record { sfits = c .negated .ok }) ∙ c .negated .ensures)
 

@@ -39,7 +39,7 @@ negated-requires c κs = search needs
 
 returns : tie.Need-returns
 unfolding verdictOfTable
-returns c = 
+returns c =
     rw (ap (λ (r : Reading). r .check) (sym (c .before .before .before .before .read .ensures)) ∙ c .before .before .check .given .1)
     (toZ-ofZ {w = w64} {z = c .negated .result} (record { sfits = c .negated .ok }) ∙ c .negated .ensures)
 
@@ -68,7 +68,7 @@ returns-3 : tie.Need-returns-3
 returns-3 c = sym (ap verdictCode (is-verdict (c .before .before) ∙ c .enum-told3 .given .1))
 
 returns-4 : tie.Need-returns-4
-returns-4 c = 
+returns-4 c =
     toZ-ofZ {w = w64} {z = c .negated2 .result} (record { sfits = c .negated2 .ok }) ∙ c .negated2 .ensures
     ∙ sym (ap verdictCode (is-verdict (c .before .before .before .before) ∙ c .before .before .refusal .given .1))
 

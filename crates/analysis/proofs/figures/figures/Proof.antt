@@ -52,7 +52,7 @@ gathered ert cja answer slacks = record { check = Passed; ert = ert; cja = cja; 
 
 returns-2 : tie.Need-returns-2
 unfolding figuresOf gathered
-returns-2 c = 
+returns-2 c =
     rw (accepts (c .before .before .before .before .before))
     (ap₂ (λ (x y : List ℕ). gathered x y (c .before .before .before .before .accepted-itr .result) (c .before .before .slacks-by .result)) (c .before .accepted-ert .ensures) (c .accepted-cja .ensures)
     ∙ ap₂ (λ (a : Itr) (z : List ℤ). gathered (padded maxJobs 0 (ert (tableOf (jobsOf (c .before .before .before .before .before .before .before .before .args .set))))) (padded maxJobs 0 (cja (tableOf (jobsOf (c .before .before .before .before .before .before .before .before .args .set))))) a z) (c .before .before .before .before .accepted-itr .ensures) (c .before .before .slacks-by .ensures))

@@ -32,7 +32,7 @@ array-read-slack : tie.Need-array-read-slack Inv-loop μ-loop
 array-read-slack c = search needs
 
 slack-requires : tie.Need-slack-requires Inv-loop μ-loop
-slack-requires c κs = 
+slack-requires c κs =
     let s = c .before .before .before .args .t1 in
     let l = c .before .before .loop in
     let h = c .before .loop-test .taken in
@@ -51,15 +51,16 @@ loop-less : tie.Need-loop-less Inv-loop μ-loop
 loop-less c = search needs
 
 loop-again : tie.Need-loop-again Inv-loop μ-loop
-loop-again c = 
+loop-again c =
     let s = c .before .before .before .before .args .t1 in
     let l = c .before .before .before .loop in
-    let h = c .before .before .loop-test .taken in
-    (l .inv .0,
-    slacked-next (jobsOf s) (c .before .before .before .before .pre .0) (c .before .before .before .before .args .t2) (c .before .before .before .before .pre .1) (l .i) (omega (arith, length-jobs s, h)) _ (job-at s (l .i) h) (l .slacks) _ (c .slack .ensures) (l .inv .1))
+    let h = c .before .before .loop-test .taken in (
+      l .inv .0,
+      slacked-next (jobsOf s) (c .before .before .before .before .pre .0) (c .before .before .before .before .args .t2) (c .before .before .before .before .pre .1) (l .i) (omega (arith, length-jobs s, h)) _ (job-at s (l .i) h) (l .slacks) _ (c .slack .ensures) (l .inv .1),
+    )
 
 returns : tie.Need-returns Inv-loop μ-loop
-returns c = 
+returns c =
     let s = c .before .before .args .t1 in
     let l = c .before .loop in
     slacked-all (jobsOf s) (l .i) (l .slacks) (omega (arith, length-jobs s, c .loop-test .left)) (l .inv .1)

@@ -30,7 +30,7 @@ enum-known-check c = search needs
 
 returns : tie.Need-returns
 unfolding boundsAnswer boundsLeft
-returns c = 
+returns c =
     let e = ap (λ (r : Reading). r .check) (sym (c .before .before .before .read .ensures)) ∙ c .before .check .given .1 in
     (rw e, rw e)
 
@@ -41,7 +41,7 @@ figures-requires : tie.Need-figures-requires
 figures-requires c κs = search needs
 
 write-bounds-requires : tie.Need-write-bounds-requires
-write-bounds-requires c κs = 
+write-bounds-requires c κs =
     let s = c .before .before .before .before .before .read .result .set in
     omega (arith, length-jobs s, accepted (jobsOf s) (accepts (c .before .before .before)) .few)
 
@@ -50,7 +50,7 @@ same-length c = search needs
 
 returns-2 : tie.Need-returns-2
 unfolding boundsAnswer boundsLeft
-returns-2 c = 
+returns-2 c =
     let text = figures-text (c .before .before .before .before .before .before .before .before .read .result .set) (c .before .before .before .before .figures .result) (c .before .before .before .before .figures .ensures) (accepts (c .before .before .before .before .before .before)) in
     let from = ap (λ (r : Reading). jobsOf (r .set)) (c .before .before .before .before .before .before .before .before .read .ensures) in
     rw (passed (c .before .before .before .before .before .before)) (rw (text, from) at (c .before .before .write-bounds .ensures))

@@ -34,7 +34,7 @@ add-length : tie.Need-add-length
 add-length c = let h = c .rows-length .ensures .1 in search (needs, h)
 
 returns : tie.Need-returns
-returns c = 
+returns c =
     let text = boundsHeader ++ (figureRows (c .before .before .before .before .before .before .before .before .args .set) (c .before .before .before .before .before .before .before .before .args .t2)) in
     let buffer = c .before .before .before .before .before .before .before .before .args .out .now in
     (answer-short text buffer (omega (arith, length-is (c .before), c .if1 .taken)), sym (written-short text buffer (omega (arith, length-is (c .before), c .if1 .taken))))
@@ -55,7 +55,7 @@ same-length : tie.Need-same-length
 same-length c = let h = wrote-length (rows (c .before .before)) (omega (arith, fits (c .before .before .before .before .before .before .before .before .before .before .before .before .before .before))) in search (needs, h)
 
 returns-2 : tie.Need-returns-2
-returns-2 c = 
+returns-2 c =
     let text = boundsHeader ++ (figureRows (c .before .before .before .before .before .before .before .before .before .before .before .before .before .before .before .before .before .before .before .before .before .before .args .set) (c .before .before .before .before .before .before .before .before .before .before .before .before .before .before .before .before .before .before .before .before .before .before .args .t2)) in
     (answer-fits text (c .before .before .before .before .before .before .before .before .before .before .before .before .before .before .before .before .before .before .before .before .before .before .args .out .now) _ (fits (c .before .before .before .before .before .before .before .before .before .before .before .before .before .before)) (sym (length-is (c .before .before .before .before .before .before .before .before .before .before .before .before .before .before .before))), wrote-whole (rows (c .before .before)) (fits (c .before .before .before .before .before .before .before .before .before .before .before .before .before .before)) .1)
 

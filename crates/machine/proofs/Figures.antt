@@ -1,0 +1,100 @@
+-- The columns of a set: filled place by place, they show its table. Assumes an accepted set.
+--   Filled   what stands in the columns after n jobs
+use Prim.Native.Nat.{ℕ, zero, suc, _+_, _*_, _≤_, _<_, _^_}
+use mathlib.Core.Path.{_≡_, refl, sym, ap, subst, _∙_}
+use mathlib.Core.List.{List}
+use native.Mathlib.Omega.{arith}
+use native.Mathlib.Numerals.{add-one}
+use lib.ListN.{length, getD, set, length-set}
+use lib.Seq.{getD-set-same, getD-set-other}
+use borrow.Author.Tests.{ne-eqb}
+use Rattle.laws.proofs.Tests.{by-last}
+use Rattle.jobs.specs.declared.job.Job.{Job}
+use Rattle.jobs.specs.Limits.{maxJobs, maxRelease, maxTime}
+use Rattle.jobs.specs.Jobs.{noJob}
+use Rattle.jobs.specs.Accepted.{Accepted, jobAt}
+use Rattle.theory.specs.Table.{joined}
+use Rattle.theory.specs.Releases.{effectiveEarliest, tableOf}
+use Rattle.theory.proofs.Releases.{earliest-latest}
+use Rattle.theory.proofs.AcceptedSets.{accepted-latest}
+use Rattle.machine.specs.declared.columns.Columns.{Columns}
+use Rattle.machine.specs.Private.{Shown, carried}
+
+-- the job before place n, and its effective release
+abbrev pub lastAt : List Job → ℕ → Job
+lastAt js zero = noJob
+lastAt js (suc k) = jobAt js k
+
+abbrev pub beforeAt : List Job → ℕ → ℕ
+beforeAt js zero = 0
+beforeAt js (suc k) = tableOf js .earliest k
+
+-- a column with one more figure
+module _ (f : ℕ → ℕ) (column : List ℕ) (n x : ℕ) (room : n < length column) (e : x ≡ f n) (h : (i : ℕ) → i < n → getD column i 0 ≡ f i) where
+  column-next : (i : ℕ) → i < n + 1 → getD (set column n x) i 0 ≡ f i
+  column-next i l =
+      by-last i n (omega arith)
+      (λ q. rw (q, getD-set-same column n x 0 room) e)
+      (λ m. getD-set-other column n i x 0 (λ q. omega arith) ∙ h i m)
+
+pub record Filled (js : List Job) (n : ℕ) (last : Job) (before : ℕ) (columns : Columns) : Type 0 where
+  pub inside : n ≤ length js
+  pub last-is : last ≡ lastAt js n
+  pub before-is : before ≡ beforeAt js n
+  pub shown : Shown (tableOf js) columns n
+  pub long-chain : length (columns .chain) ≡ maxJobs
+  pub long-priority : length (columns .priority) ≡ maxJobs
+  pub long-release : length (columns .release) ≡ maxJobs
+
+abbrev pub columnsOf : List ℕ → List ℕ → List ℕ → Columns
+columnsOf chain priority release = record { chain = chain; priority = priority; release = release }
+
+module _ (js : List Job) (ok : Accepted js) where
+  release-limit : (n : ℕ) → n ≤ length js → beforeAt js n + lastAt js n .least ≤ maxRelease + maxJobs * maxTime + maxTime
+  release-limit zero l = omega arith
+  release-limit (suc k) l = omega (arith, accepted-latest js ok k l, earliest-latest js k, ok .limits k l .range, ok .limits k l .time)
+
+  carried-is : (n : ℕ) → n < length js → carried (lastAt js n) (beforeAt js n) (jobAt js n) ≡ tableOf js .earliest n
+  unfolding carried effectiveEarliest joined
+  carried-is zero l = rw (ne-eqb 0 (jobAt js 0 .chain) (λ e. omega (arith, ok .first .0)))
+  carried-is (suc k) l = refl
+
+  pub filled-start : (columns : Columns) → length (columns .chain) ≡ maxJobs → length (columns .priority) ≡ maxJobs → length (columns .release) ≡ maxJobs
+      → (last : Job) → last ≡ noJob → Filled js 0 last 0 columns
+  filled-start columns a b c last e =
+      record {
+        inside = omega arith;
+        last-is = e;
+        before-is = refl;
+        shown = record { chain = λ i l. absurd (omega arith); urgency = λ i l. absurd (omega arith); release = λ i l. absurd (omega arith) };
+        long-chain = a;
+        long-priority = b;
+        long-release = c;
+      }
+
+  module _ {n : ℕ} {last : Job} {before : ℕ} {columns : Columns} (f : Filled js n last before columns) where
+    pub filled-fits : before + last .least < 2 ^ 64
+    filled-fits = rw (f .before-is, f .last-is) (omega (arith, release-limit n (f .inside)))
+
+    pub filled-next : n < length js → (job : Job) → job ≡ jobAt js n → (r : ℕ) → r ≡ carried last before job
+        → Filled js (n + 1) job r (columnsOf (set (columns .chain) n (job .chain)) (set (columns .priority) n (job .priority)) (set (columns .release) n r))
+    filled-next l job e r q =
+        let room : n < maxJobs = omega (arith, ok .few) in
+        let effective : r ≡ tableOf js .earliest n = q ∙ rw (f .before-is, f .last-is, e) (carried-is n l) in
+        record {
+          inside = omega arith;
+          last-is = e ∙ ap (lastAt js) (sym (add-one n));
+          before-is = effective ∙ ap (beforeAt js) (sym (add-one n));
+          shown =
+              record {
+                chain = column-next (tableOf js .chain) (columns .chain) n (job .chain) (omega (arith, f .long-chain)) (ap (λ (j : Job). j .chain) e) (f .shown .chain);
+                urgency = column-next (tableOf js .urgency) (columns .priority) n (job .priority) (omega (arith, f .long-priority)) (ap (λ (j : Job). j .priority) e) (f .shown .urgency);
+                release = column-next (tableOf js .earliest) (columns .release) n r (omega (arith, f .long-release)) effective (f .shown .release);
+              };
+          long-chain = length-set (columns .chain) n (job .chain) ∙ f .long-chain;
+          long-priority = length-set (columns .priority) n (job .priority) ∙ f .long-priority;
+          long-release = length-set (columns .release) n r ∙ f .long-release;
+        }
+
+    pub filled-end : (count : ℕ) → n ≡ count → Shown (tableOf js) columns count
+    filled-end count e = subst (Shown (tableOf js) columns) e (f .shown)

@@ -1,0 +1,14 @@
+pub mod Every
+pub mod Readiness
+pub mod Picks
+pub mod RunningTimes
+pub mod Figures
+pub mod Ticking
+pub mod Course
+pub mod Running
+pub mod Spans
+pub mod Tracing
+pub mod Legality
+pub mod Reading
+pub mod Claims
+pub mod Scanning

@@ -1,0 +1,198 @@
+-- The pick. What is proved of it rests on these laws of the relation alone: it is asymmetric, and a job that goes before one of two goes before the
+-- other, or the other before the one. Assumes nothing.
+--   Before   a job is picked before another: it goes first, or neither does and it comes first in the table
+--   Picked   what the pick of the first n jobs is
+use Prim.Native.Nat.{ℕ, zero, suc, _+_, _≤_, _<_}
+use mathlib.Core.Path.{_≡_, refl, ap, _∙_}
+use mathlib.Core.Bool.{Bool, true, false, cond, _&&_}
+use mathlib.Core.List.{List}
+use mathlib.Core.Logic.{_⊎_, inl, inr, ⊎-elim}
+use native.Mathlib.Omega.{arith}
+use native.Mathlib.Numerals.{add-one}
+use lib.Dec.{ltb, eqb}
+use borrow.Author.Tests.{ltb-true, eqb-true, lt-ltb, le-ltb, eq-eqb}
+use Rattle.laws.proofs.Tests.{by-test, by-order, by-last, both-ways, and-left, and-right}
+use Rattle.theory.specs.Table.{Table}
+use Rattle.theory.specs.Runs.{Entry, idle, runs}
+use Rattle.machine.specs.declared.state.State.{State}
+use Rattle.machine.specs.declared.pick.Best.{Best}
+use Rattle.machine.specs.Ready.{ready}
+use Rattle.machine.specs.Pick.{outranks, goesFirst, preferred, pickUpTo, pick}
+use Rattle.machine.specs.Private.{bestOf, better, considered}
+use Rattle.machine.proofs.Readiness.{Alike, ready-alike}
+
+-- ---- the relation
+-- what it takes to outrank
+data Rank (p c q d : ℕ) : Type 0 where
+  higher : q < p → Rank p c q d
+  equal : p ≡ q → c < d → Rank p c q d
+
+rank : (p c q d : ℕ) → outranks p c q d ≡ true → Rank p c q d
+unfolding outranks
+rank p c q d h = by-test (ltb q p) (λ e. higher (ltb-true q p e)) (λ e. tie (rw e at h))
+  where
+    tie : eqb p q && ltb c d ≡ true → Rank p c q d
+    tie g = equal (eqb-true p q (and-left (eqb p q) (ltb c d) g)) (ltb-true c d (and-right (eqb p q) (ltb c d) g))
+
+rank-outranks : (p c q d : ℕ) → Rank p c q d → outranks p c q d ≡ true
+unfolding outranks
+rank-outranks p c q d (higher l) = rw (lt-ltb q p l)
+rank-outranks p c q d (equal e l) = rw (le-ltb q p (omega arith), eq-eqb p q e, lt-ltb c d l)
+
+never-both : (p c q d : ℕ) → Rank p c q d → Rank q d p c → ⊥
+never-both p c q d (higher l) (higher m) = omega arith
+never-both p c q d (higher l) (equal e m) = omega arith
+never-both p c q d (equal e l) (higher m) = omega arith
+never-both p c q d (equal e l) (equal f m) = omega arith
+
+split : (p c q d r e : ℕ) → Rank p c r e → Rank p c q d ⊎ Rank q d r e
+split p c q d r e h =
+    by-order p q
+    (λ l. by-order q p
+    (λ m. by-order d c (λ n. inr (below h l m n)) (λ n. inl (equal (omega arith) n)))
+    (λ m. inr (above h m)))
+    (λ l. inl (higher l))
+  where
+    above : Rank p c r e → p < q → Rank q d r e
+    above (higher x) y = higher (omega arith)
+    above (equal x z) y = higher (omega arith)
+
+    below : Rank p c r e → p ≤ q → q ≤ p → d ≤ c → Rank q d r e
+    below (higher x) y z w = higher (omega arith)
+    below (equal x v) y z w = equal (omega arith) (omega arith)
+
+module _ (t : Table) where
+  pub first-asymmetric : (u v : ℕ) → goesFirst t u v ≡ true → goesFirst t v u ≡ true → ⊥
+  unfolding goesFirst
+  first-asymmetric u v h g = never-both (t .urgency u) (t .chain u) (t .urgency v) (t .chain v) (rank _ _ _ _ h) (rank _ _ _ _ g)
+
+  pub first-split : (u v w : ℕ) → goesFirst t u w ≡ true → (goesFirst t u v ≡ true) ⊎ (goesFirst t v w ≡ true)
+  unfolding goesFirst
+  first-split u v w h =
+      ⊎-elim
+      (λ r. inl (rank-outranks _ _ _ _ r))
+      (λ r. inr (rank-outranks _ _ _ _ r))
+      (split (t .urgency u) (t .chain u) (t .urgency v) (t .chain v) (t .urgency w) (t .chain w) (rank _ _ _ _ h))
+
+  -- a job that does not go first is not more urgent
+  pub first-urgent : (u v : ℕ) → goesFirst t u v ≡ false → t .urgency u ≤ t .urgency v
+  unfolding goesFirst
+  first-urgent u v h =
+      by-order (t .urgency u) (t .urgency v)
+      (λ l. l)
+      (λ l. absurd (both-ways (rank-outranks (t .urgency u) (t .chain u) (t .urgency v) (t .chain v) (higher l)) h))
+
+  -- ---- from here on only these laws are used
+  abbrev pub Before : ℕ → ℕ → Type 0
+  Before u v = (goesFirst t u v ≡ true) ⊎ ((goesFirst t v u ≡ false) × (u < v))
+
+  pub before-asymmetric : {u v : ℕ} → Before u v → Before v u → ⊥
+  before-asymmetric {u} {v} (inl h) (inl g) = first-asymmetric u v h g
+  before-asymmetric (inl h) (inr g) = both-ways h (g .0)
+  before-asymmetric (inr h) (inl g) = both-ways g (h .0)
+  before-asymmetric (inr h) (inr g) = omega (arith, h .1, g .1)
+
+  pub before-urgent : {u v : ℕ} → Before u v → t .urgency v ≤ t .urgency u
+  before-urgent {u} {v} (inl h) = first-urgent v u (by-test (goesFirst t v u) (λ g. absurd (first-asymmetric u v h g)) (λ g. g))
+  before-urgent {u} {v} (inr h) = first-urgent v u (h .0)
+
+  first-before : {u v w : ℕ} → goesFirst t u v ≡ true → Before v w → Before u w
+  first-before {u} {v} {w} h (inl g) = inl (⊎-elim (λ e. e) (λ e. absurd (first-asymmetric v w g e)) (first-split u w v h))
+  first-before {u} {v} {w} h (inr g) = inl (⊎-elim (λ e. e) (λ e. absurd (both-ways e (g .0))) (first-split u w v h))
+
+  module _ (times : List ℕ) (s : State) where
+    -- a ready job among the first n that is before every other one
+    pub record Chosen (n u : ℕ) : Type 0 where
+      pub inside : u < n
+      pub is-ready : ready t times s u ≡ true
+      pub top : (k : ℕ) → k < n → ready t times s k ≡ true → (k ≡ u) ⊎ Before u k
+
+    abbrev pub Picked : ℕ → Entry → Type 0
+    Picked n idle = (k : ℕ) → k < n → ready t times s k ≡ false
+    Picked n (runs u) = Chosen n u
+
+    unready : (n : ℕ) → ready t times s n ≡ false → (e : Entry) → Picked n e → Picked (suc n) e
+    unready n r idle h = λ k l. by-last k n l (λ q. ap (ready t times s) q ∙ r) (λ m. h k m)
+    unready n r (runs u) h =
+        record {
+          inside = omega (arith, h .inside);
+          is-ready = h .is-ready;
+          top = λ k l g. by-last k n l (λ q. absurd (both-ways g (ap (ready t times s) q ∙ r))) (λ m. h .top k m g);
+        }
+
+    only : (n : ℕ) → ready t times s n ≡ true → Picked n idle → Chosen (suc n) n
+    only n r h = record { inside = omega arith; is-ready = r; top = λ k l g. by-last k n l (λ q. inl q) (λ m. absurd (both-ways g (h k m))) }
+
+    taken : (n u : ℕ) → ready t times s n ≡ true → Chosen n u → goesFirst t n u ≡ true → Chosen (suc n) n
+    taken n u r h g =
+        record {
+          inside = omega arith;
+          is-ready = r;
+          top = λ k l q.
+              by-last k n l
+              (λ e. inl e)
+              (λ m. inr (⊎-elim (λ e. rw e (inl g)) (λ b. first-before g b) (h .top k m q)));
+        }
+
+    kept : (n u : ℕ) → Chosen n u → goesFirst t n u ≡ false → Chosen (suc n) u
+    kept n u h g =
+        record {
+          inside = omega (arith, h .inside);
+          is-ready = h .is-ready;
+          top = λ k l q. by-last k n l (λ e. rw e (inr (inr (g, h .inside)))) (λ m. h .top k m q);
+        }
+
+    ready-next : (n : ℕ) → ready t times s n ≡ true → (e : Entry) → Picked n e → Picked (suc n) (preferred t e n)
+    ready-next n r idle h = only n r h
+    ready-next n r (runs u) h = by-test (goesFirst t n u) (λ g. rw g (taken n u r h g)) (λ g. rw g (kept n u h g))
+
+    pub picked-up-to : (n : ℕ) → Picked n (pickUpTo t times s n)
+    unfolding pickUpTo
+    picked-up-to zero = λ k l. absurd (omega arith)
+    picked-up-to (suc n) =
+        by-test (ready t times s n)
+        (λ r. rw r (ready-next n r (pickUpTo t times s n) (picked-up-to n)))
+        (λ r. rw r (unready n r (pickUpTo t times s n) (picked-up-to n)))
+
+    pub picked : Picked (t .count) (pick t times s)
+    unfolding pick
+    picked = picked-up-to (t .count)
+
+-- ---- the scan keeps the pick
+better-idle : (t : Table) (u : ℕ) → better (bestOf t idle) u (t .urgency u) (t .chain u) ≡ bestOf t (runs u)
+unfolding better
+better-idle t u = refl
+
+better-runs : (t : Table) (v u : ℕ) → better (bestOf t (runs v)) u (t .urgency u) (t .chain u) ≡ bestOf t (preferred t (runs v) u)
+unfolding better goesFirst
+better-runs t v u = by-rank (outranks (t .urgency u) (t .chain u) (t .urgency v) (t .chain v))
+  where
+    by-rank : (b : Bool) → cond b (bestOf t (runs u)) (bestOf t (runs v)) ≡ bestOf t (cond b (runs u) (runs v))
+    by-rank true = refl
+    by-rank false = refl
+
+better-preferred : (t : Table) (e : Entry) (u : ℕ) → better (bestOf t e) u (t .urgency u) (t .chain u) ≡ bestOf t (preferred t e u)
+better-preferred t idle u = better-idle t u
+better-preferred t (runs v) u = better-runs t v u
+
+pub considered-next : (t : Table) (times : List ℕ) (s : State) (best : Best) (u : ℕ) → best ≡ bestOf t (pickUpTo t times s u)
+    → considered t times s best u ≡ bestOf t (pickUpTo t times s (u + 1))
+unfolding considered pickUpTo
+considered-next t times s best u e =
+    rw (add-one, e) (by-test (ready t times s u) (λ r. rw r (better-preferred t (pickUpTo t times s u) u)) (λ r. rw r))
+
+-- ---- tables that agree have the same pick
+module _ {a b : Table} {n : ℕ} (same : Alike a b n) (times : List ℕ) (s : State) where
+  first-alike : (u v : ℕ) → u < n → v < n → goesFirst a u v ≡ goesFirst b u v
+  unfolding goesFirst
+  first-alike u v l m = rw (same .urgency u l, same .urgency v m, same .chain u l, same .chain v m)
+
+  preferred-alike : (m u : ℕ) → m ≤ n → u < n → (e : Entry) → Picked a times s m e → preferred a e u ≡ preferred b e u
+  preferred-alike m u k l idle h = refl
+  preferred-alike m u k l (runs v) h = rw (first-alike u v l (omega (arith, h .inside)))
+
+  pub pick-alike : (m : ℕ) → m ≤ n → pickUpTo a times s m ≡ pickUpTo b times s m
+  unfolding pickUpTo
+  pick-alike zero l = refl
+  pick-alike (suc m) l =
+      rw (ready-alike same times s m l, ← pick-alike m (omega arith), preferred-alike m m (omega arith) l (pickUpTo a times s m) (picked-up-to a times s m))

@@ -1,0 +1,236 @@
+-- A run as the code makes it: counters of work, what is left of it, and the time. Assumes a set and running times that have passed.
+--   Reached   what holds at the head of a run's loop
+--   Noted     the completions so far
+use Prim.Native.Nat.{ℕ, zero, suc, _+_, _-_, _*_, _≤_, _<_}
+use mathlib.Core.Path.{_≡_, refl, sym, ap, subst, _∙_}
+use mathlib.Core.Bool.{true, false}
+use mathlib.Core.List.{List}
+use native.Mathlib.Omega.{arith}
+use native.Mathlib.Numerals.{add-one}
+use native.Mathlib.Nat.{add-zero, add-suc, zero-add}
+use lib.ListN.{length, getD, set, length-set, replicate, length-replicate}
+use lib.Seq.{getD-set-same, getD-set-other, ext-getD}
+use lib.ListN as ListN
+use borrow.Author.Tests.{eq-eqb, ne-eqb}
+use Rattle.laws.specs.Places.{tabulate}
+use Rattle.laws.proofs.Tests.{by-test, by-equal}
+use Rattle.laws.proofs.Sums.{sum-zero}
+use Rattle.laws.proofs.Tabulate.{length-tabulate, getD-tabulate}
+use Rattle.jobs.specs.declared.job.Job.{Job}
+use Rattle.jobs.specs.declared.set.JobSet.{JobSet}
+use Rattle.jobs.specs.declared.refusal.Refusal.{Refusal}
+use Rattle.jobs.specs.declared.refusal.Check.the-variants.{Passed, Refused}
+use Rattle.jobs.specs.Limits.{maxJobs, maxRelease}
+use Rattle.jobs.specs.Jobs.{jobsOf}
+use Rattle.jobs.proofs.Sets.{length-jobs}
+use Rattle.jobs.specs.Limits as Limits
+use Rattle.theory.specs.Table.{Table}
+use Rattle.theory.specs.Releases.{tableOf}
+use Rattle.theory.specs.Runs.{Entry, idle, runs, names}
+use Rattle.theory.proofs.Releases.{earliest-latest}
+use Rattle.theory.proofs.AcceptedSets.{accepted-latest}
+use Rattle.machine.specs.declared.columns.Columns.{Columns}
+use Rattle.machine.specs.declared.pick.Best.{Best}
+use Rattle.machine.specs.declared.run.Completed.{Completed}
+use Rattle.machine.specs.States.{maxTime}
+use Rattle.machine.specs.Times.{machineCheck}
+use Rattle.machine.specs.Pick.{pickUpTo, pick}
+use Rattle.machine.specs.Ticks.{allComplete, moved}
+use Rattle.machine.specs.Runs.{after, entry, completion, finish, completions, runOf}
+use Rattle.machine.specs.Private.{seen, stateOf, sumOf, bestOf, Prepared}
+use Rattle.machine.proofs.RunningTimes.{set-accepted, times-each, times-brief, sum-limit}
+use Rattle.machine.proofs.Ticking.{pick-chosen, next-moved, advance-none, advance-found, advance-inside, advance-room, advance-work}
+use Rattle.machine.proofs.Course.{sum-worked, all-sum, sum-all, none-done, after-next, after-settled, pick-settled, Going, going, idle-early}
+
+-- ---- completions, one tick more
+module _ (t : Table) (times : List ℕ) where
+  pub completion-named : (u n : ℕ) → entry t times n ≡ runs u → completion t times u (suc n) ≡ suc n
+  unfolding completion names
+  completion-named u n e = rw (e, eq-eqb u u refl)
+
+  pub completion-other : (u v n : ℕ) → entry t times n ≡ runs v → (u ≡ v → ⊥) → completion t times u (suc n) ≡ completion t times u n
+  unfolding completion names
+  completion-other u v n e ne = rw (e, ne-eqb v u (λ q. ne (sym q)))
+
+  pub completion-idle : (u n : ℕ) → entry t times n ≡ idle → completion t times u (suc n) ≡ completion t times u n
+  unfolding completion names
+  completion-idle u n e = rw e
+
+  pub entry-settled : (n : ℕ) → allComplete times (after t times n .work) (t .count) ≡ true → (m : ℕ) → entry t times (n + m) ≡ idle
+  unfolding entry
+  entry-settled n h m = rw (after-settled t times n h m) (pick-settled t times (after t times n) h)
+
+  pub completion-settled : (u n : ℕ) → allComplete times (after t times n .work) (t .count) ≡ true → (m : ℕ) → completion t times u (n + m) ≡ completion t times u n
+  completion-settled u n h zero = rw add-zero
+  completion-settled u n h (suc m) = rw add-suc (completion-idle u (n + m) (entry-settled n h m) ∙ completion-settled u n h m)
+
+-- ---- an accepted set and its running times
+abbrev pub lastRelease : ℕ
+lastRelease = maxRelease + maxJobs * Limits.maxTime
+
+nothing-done : (n : ℕ) → _≡_ {A = ℕ} (sumOf (replicate maxJobs 0) n) 0
+unfolding sumOf
+nothing-done n = sum-zero n (λ i. getD (replicate maxJobs 0) i 0) (λ i l. none-done maxJobs i)
+
+pub record Reached (js : List Job) (times work : List ℕ) (left time : ℕ) : Type 0 where
+  pub here : after (tableOf js) times time ≡ stateOf time work
+  pub rest : left + sumOf work (length js) ≡ sumOf times (length js)
+  pub early : time ≤ lastRelease + sumOf work (length js)
+
+pub record Noted (js : List Job) (times column : List ℕ) (time : ℕ) : Type 0 where
+  pub long : length column ≡ maxJobs
+  pub each : (u : ℕ) → getD column u 0 ≡ completion (tableOf js) times u time
+
+module _ (js : List Job) (times : List ℕ) (passed : machineCheck js times ≡ Passed) where
+  abbrev t : Table
+  t = tableOf js
+
+  pub few-jobs : length js ≤ maxJobs
+  few-jobs = set-accepted js times passed .few
+
+  pub released-by : (u : ℕ) → u < length js → t .earliest u ≤ lastRelease
+  released-by u l = omega (arith, earliest-latest js u, accepted-latest js (set-accepted js times passed) u l)
+
+  pub goes : (n : ℕ) → Going t times lastRelease few-jobs released-by n (after t times n)
+  goes = going t times lastRelease few-jobs released-by
+
+  pub work-limit : sumOf times (length js) ≤ maxJobs * Limits.maxTime
+  work-limit = omega (arith, sum-limit times (times-brief js times passed) (length js) (omega (arith, times-each js times passed)), few-jobs)
+
+  pub reached-start : (left : ℕ) → left ≡ sumOf times (length times) → Reached js times (replicate maxJobs 0) left 0
+  unfolding after
+  reached-start left e =
+      record {
+        here = refl;
+        rest = omega (arith, nothing-done (length js), ap (sumOf times) (times-each js times passed));
+        early = omega arith;
+      }
+
+  module _ {work : List ℕ} {left time : ℕ} (r : Reached js times work left time) where
+    now : Going t times lastRelease few-jobs released-by time (stateOf time work)
+    now = rw (r .here) at (goes time)
+
+    pub reached-long : length work ≡ maxJobs
+    reached-long = now .long
+
+    pub reached-within : (u : ℕ) → u < length js → getD work u 0 ≤ getD times u 0
+    reached-within = now .within
+
+    pub reached-entry : entry t times time ≡ pick t times (stateOf time work)
+    unfolding entry
+    reached-entry = ap (pick t times) (r .here)
+
+    -- with work left
+    module _ (more : 0 < left) where
+      pub reached-open : allComplete times work (length js) ≡ false
+      reached-open =
+          by-test (allComplete times work (length js))
+          (λ h. absurd (omega (arith, all-sum times work (length js) h, r .rest)))
+          (λ h. h)
+
+      pub reached-early : time < maxTime
+      reached-early = omega (arith, r .early, r .rest, work-limit)
+
+      next-here : (e : Entry) → pick t times (stateOf time work) ≡ e → after t times (time + 1) ≡ moved e (stateOf time work)
+      next-here e q = rw (add-one, after-next, r .here) (next-moved t times (stateOf time work) e q reached-open)
+
+      pub reached-ran : (u : ℕ) → pick t times (stateOf time work) ≡ runs u → Reached js times (set work u (getD work u 0 + 1)) (left - 1) (time + 1)
+      reached-ran u q =
+          let inside = pick-chosen t times (stateOf time work) u q .inside in
+          let more-work = sum-worked work u (length js) inside (omega (arith, reached-long, few-jobs)) in
+          record { here = next-here (runs u) q; rest = omega (arith, r .rest, more-work); early = omega (arith, r .early, more-work) }
+
+      pub reached-idle : pick t times (stateOf time work) ≡ idle → Reached js times work left (time + 1)
+      reached-idle q =
+          record {
+            here = next-here idle q;
+            rest = r .rest;
+            early = omega (arith, idle-early t times lastRelease few-jobs released-by (stateOf time work) q reached-open);
+          }
+
+    -- with none left
+    module _ (none : left ≤ 0) where
+      pub reached-all : allComplete times work (length js) ≡ true
+      reached-all = sum-all times work (length js) reached-within (omega (arith, r .rest))
+
+      pub reached-settled : allComplete times (after t times time .work) (length js) ≡ true
+      reached-settled = rw (r .here) reached-all
+
+      pub reached-limit : time ≤ maxTime
+      reached-limit = omega (arith, r .early, r .rest, work-limit)
+
+      pub reached-finish : finish t times ≡ stateOf time work
+      reached-finish =
+          let e : time + (maxTime - time) ≡ maxTime = omega (arith, reached-limit) in
+          subst (λ (n : ℕ). after t times n ≡ stateOf time work) e (after-settled t times time reached-settled (maxTime - time) ∙ r .here)
+
+  -- ---- completions
+  pub noted-start : Noted js times (replicate maxJobs 0) 0
+  unfolding completion
+  noted-start = record { long = length-replicate {A = ℕ} maxJobs 0; each = λ u. none-done maxJobs u }
+
+  module _ {column : List ℕ} {time : ℕ} (h : Noted js times column time) where
+    pub noted-ran : (u : ℕ) → u < maxJobs → entry t times time ≡ runs u → Noted js times (set column u (time + 1)) (time + 1)
+    noted-ran u l e =
+        record {
+          long = length-set column u (time + 1) ∙ h .long;
+          each = λ v.
+              by-equal v u
+              (λ q. rw (q, getD-set-same column u (time + 1) 0 (omega (arith, h .long)), add-one) (sym (completion-named t times u time e)))
+              (λ ne. getD-set-other column u v (time + 1) 0 ne ∙ h .each v ∙ rw add-one (sym (completion-other t times v u time e ne)));
+        }
+
+    pub noted-idle : entry t times time ≡ idle → Noted js times column (time + 1)
+    noted-idle e = record { long = h .long; each = λ v. h .each v ∙ rw add-one (sym (completion-idle t times v time e)) }
+
+    pub noted-all : {work : List ℕ} {left : ℕ} → Reached js times work left time → left ≤ 0 → column ≡ completions t times
+    unfolding completions
+    noted-all {work} {left} r none =
+        let e : time + (maxTime - time) ≡ maxTime = omega (arith, reached-limit r none) in
+        ext-getD 0 column (tabulate 0 maxJobs (λ u. completion t times u maxTime)) (h .long ∙ sym (length-tabulate 0 maxJobs (λ u. completion t times u maxTime)))
+        (λ u l.
+        h .each u
+        ∙ sym (completion-settled t times u time (reached-settled r none) (maxTime - time))
+        ∙ ap (completion t times u) e
+        ∙ ap (λ (k : ℕ). completion t times k maxTime) (sym (zero-add u))
+        ∙ sym (getD-tabulate 0 maxJobs (λ k. completion t times k maxTime) 0 u (omega (arith, h .long))))
+
+  pub run-done : (end : ℕ) (work column : List ℕ) → finish t times ≡ stateOf end work → column ≡ completions t times
+      → _≡_ {A = Completed} (record { check = Passed; completions = column; end = end }) (runOf js times)
+  unfolding runOf
+  run-done end work column e f = rw (passed, f, e)
+
+pub run-refused : (js : List Job) (times : List ℕ) (r : Refusal) → machineCheck js times ≡ Refused r
+    → runOf js times ≡ record { check = Refused r; completions = replicate maxJobs 0; end = 0 }
+unfolding runOf
+run-refused js times r e = rw e
+
+-- ---- one tick of the loop, by what the scan over the set's columns found
+module _ (set : JobSet) (columns : Columns) (times : List ℕ) (p : Prepared (jobsOf set) columns times) {work : List ℕ} {left time : ℕ}
+    (r : Reached (jobsOf set) times work left time) (more : 0 < left) (best : Best)
+    (e : best ≡ bestOf (seen (columns .chain) (columns .priority) (columns .release)) (pickUpTo (seen (columns .chain) (columns .priority) (columns .release)) times (stateOf time work) (set .count))) where
+  abbrev js : List Job
+  js = jobsOf set
+
+  module _ (f : best .found ≡ true) where
+    pub tick-room : best .at < maxJobs
+    tick-room = advance-room set columns times p (stateOf time work) best e f
+
+    tick-inside : best .at < length js
+    tick-inside = omega (arith, advance-inside set columns times p (stateOf time work) best e f, length-jobs set)
+
+    pub tick-work : getD work (best .at) 0 < getD times (best .at) 0
+    tick-work = advance-work set columns times p (stateOf time work) best e f (reached-within js times (p .checked) r (best .at) tick-inside)
+
+    pub tick-reached : Reached js times (ListN.set work (best .at) (getD work (best .at) 0 + 1)) (left - 1) (time + 1)
+    tick-reached = reached-ran js times (p .checked) r more (best .at) (advance-found set columns times p (stateOf time work) best e f)
+
+    pub tick-entry : entry (tableOf js) times time ≡ runs (best .at)
+    tick-entry = reached-entry js times (p .checked) r ∙ advance-found set columns times p (stateOf time work) best e f
+
+  module _ (f : best .found ≡ false) where
+    pub idle-reached : Reached js times work left (time + 1)
+    idle-reached = reached-idle js times (p .checked) r more (advance-none set columns times p (stateOf time work) best e f)
+
+    pub idle-entry : entry (tableOf js) times time ≡ idle
+    idle-entry = reached-entry js times (p .checked) r ∙ advance-none set columns times p (stateOf time work) best e f

@@ -1,0 +1,205 @@
+-- One tick: what the scan over columns finds, and the three ways that a tick can go. Assumes nothing.
+use Prim.Native.Nat.{ℕ, _≤_, _<_}
+use mathlib.Core.Path.{_≡_, refl, sym, ap, subst, _∙_}
+use mathlib.Core.Bool.{Bool, true, false, _&&_}
+use mathlib.Core.List.{List, []}
+use native.Mathlib.Omega.{arith}
+use lib.Dec.{leb}
+use lib.ListN.{length, getD}
+use borrow.Author.Tests.{leb-true, lt-leb, le-leb}
+use Rattle.laws.proofs.Tests.{both-ways, and-left, and-right}
+use Rattle.jobs.specs.declared.job.Job.{Job}
+use Rattle.jobs.specs.declared.set.JobSet.{JobSet}
+use Rattle.jobs.specs.declared.refusal.Refusal.{Refusal}
+use Rattle.jobs.specs.declared.refusal.Refusal.the-variants.{ImpossibleState}
+use Rattle.jobs.specs.declared.refusal.Check.the-variants.{Passed, Refused}
+use Rattle.jobs.specs.Refusals.{unless}
+use Rattle.jobs.specs.Limits.{maxJobs}
+use Rattle.jobs.specs.Jobs.{noJob, jobsOf}
+use Rattle.jobs.specs.Accepted.{jobAt}
+use Rattle.jobs.proofs.Sets.{length-jobs, job-at}
+use Rattle.theory.specs.Table.{Table}
+use Rattle.theory.specs.Releases.{tableOf}
+use Rattle.theory.specs.Runs.{Entry, idle, runs}
+use Rattle.machine.specs.declared.state.State.{State}
+use Rattle.machine.specs.declared.columns.Columns.{Columns}
+use Rattle.machine.specs.declared.pick.Best.{Best}
+use Rattle.machine.specs.declared.step.Ticked.the-variants.{Ran, Idle, Finished, Refused as RefusedTick}
+use Rattle.machine.specs.Every.{everyBelow}
+use Rattle.machine.specs.States.{maxTime}
+use Rattle.machine.specs.Times.{machineCheck}
+use Rattle.machine.specs.Ready.{complete, ready}
+use Rattle.machine.specs.Pick.{pickUpTo, pick}
+use Rattle.machine.specs.Ticks.{allComplete, moved, next, tickOf}
+use Rattle.machine.specs.Steps.{possible, stateCheck, stepCheck, stepOf}
+use Rattle.machine.specs.Private.{seen, Shown, bestOf, Prepared}
+use Rattle.machine.proofs.Every.{every-not, every-at, every-ext}
+use Rattle.machine.proofs.Readiness.{Alike, predecessor-bare, predecessor-alike, ready-parts, complete-ne}
+use Rattle.machine.proofs.RunningTimes.{set-accepted, times-each}
+use Rattle.machine.proofs.Picks.{Chosen, picked, pick-alike}
+
+-- ---- the scan
+pub best-found : (t : Table) (e : Entry) (best : Best) → best ≡ bestOf t e → best .found ≡ true → e ≡ runs (best .at)
+best-found t idle best q h = absurd (both-ways h (ap (λ (b : Best). b .found) q))
+best-found t (runs u) best q h = ap runs (sym (ap (λ (b : Best). b .at) q))
+
+pub best-none : (t : Table) (e : Entry) (best : Best) → best ≡ bestOf t e → best .found ≡ false → e ≡ idle
+best-none t idle best q h = refl
+best-none t (runs u) best q h = absurd (both-ways (ap (λ (b : Best). b .found) q) h)
+
+pub shown-alike : {t : Table} {columns : Columns} {n : ℕ} → Shown t columns n → Alike (seen (columns .chain) (columns .priority) (columns .release)) t n
+shown-alike h = record { chain = h .chain; urgency = h .urgency; release = h .release }
+
+module _ {t : Table} {columns : Columns} {n : ℕ} (h : Shown t columns n) (whole : t .count ≡ n) (times : List ℕ) (s : State) where
+  abbrev columnTable : Table
+  columnTable = seen (columns .chain) (columns .priority) (columns .release)
+
+  scan-pick : pickUpTo columnTable times s n ≡ pick t times s
+  unfolding pick
+  scan-pick = pick-alike (shown-alike h) times s n (omega arith) ∙ ap (pickUpTo t times s) (sym whole)
+
+  module _ (best : Best) (e : best ≡ bestOf columnTable (pickUpTo columnTable times s n)) where
+    pub scan-found : best .found ≡ true → pick t times s ≡ runs (best .at)
+    scan-found f = sym scan-pick ∙ best-found columnTable (pickUpTo columnTable times s n) best e f
+
+    pub scan-none : best .found ≡ false → pick t times s ≡ idle
+    scan-none f = sym scan-pick ∙ best-none columnTable (pickUpTo columnTable times s n) best e f
+
+-- ---- the pick
+module _ (t : Table) (times : List ℕ) (s : State) where
+  pub pick-chosen : (u : ℕ) → pick t times s ≡ runs u → Chosen t times s (t .count) u
+  pick-chosen u e = rw e at (picked t times s)
+
+  pub pick-none : pick t times s ≡ idle → (k : ℕ) → k < t .count → ready t times s k ≡ false
+  pick-none e = rw e at (picked t times s)
+
+  pub pick-open : (u : ℕ) → pick t times s ≡ runs u → complete times (s .work) u ≡ false
+  pick-open u e = ready-parts t times s u (pick-chosen u e .is-ready) .unfinished
+
+  pub pick-left : (u : ℕ) → pick t times s ≡ runs u → allComplete times (s .work) (t .count) ≡ false
+  pick-left u e = every-not (complete times (s .work)) (t .count) u (pick-chosen u e .inside) (pick-open u e)
+
+  -- the next state
+  pub next-moved : (e : Entry) → pick t times s ≡ e → allComplete times (s .work) (t .count) ≡ false → next t times s ≡ moved e s
+  unfolding next
+  next-moved e q h = rw (h, q)
+
+  pub next-stays : allComplete times (s .work) (t .count) ≡ true → next t times s ≡ s
+  unfolding next
+  next-stays h = rw h
+
+-- ---- the tick
+module _ (js : List Job) (times : List ℕ) (s : State) where
+  pub tick-ran : (u : ℕ) → pick (tableOf js) times s ≡ runs u
+      → tickOf js times s ≡ record { ticked = Ran (jobAt js u .chain) (jobAt js u .job); state = moved (runs u) s }
+  unfolding tickOf next
+  tick-ran u e = rw (pick-left (tableOf js) times s u e, e)
+
+  pub tick-finished : allComplete times (s .work) (length js) ≡ true → tickOf js times s ≡ record { ticked = Finished; state = s }
+  unfolding tickOf next
+  tick-finished h = rw h
+
+  pub tick-idle : pick (tableOf js) times s ≡ idle → allComplete times (s .work) (length js) ≡ false
+      → tickOf js times s ≡ record { ticked = Idle; state = moved idle s }
+  unfolding tickOf next
+  tick-idle e h = rw (h, e)
+
+-- ---- number 11
+module _ {t : Table} {columns : Columns} {n : ℕ} (h : Shown t columns n) (whole : t .count ≡ n) (times : List ℕ) (s : State) where
+  possible-alike : (u : ℕ) → u < n → possible (seen (columns .chain) [] (columns .release)) times s u ≡ possible t times s u
+  unfolding possible
+  possible-alike u l =
+      rw (
+        predecessor-bare (columns .chain) (columns .priority) (columns .release) times (s .work) u,
+        predecessor-alike (shown-alike h) times (s .work) u l,
+        h .release u l,
+      )
+
+  all-possible : everyBelow n (possible (seen (columns .chain) [] (columns .release)) times s) ≡ everyBelow (t .count) (possible t times s)
+  all-possible = every-ext _ (possible t times s) n possible-alike ∙ ap (λ (k : ℕ). everyBelow k (possible t times s)) (sym whole)
+
+  pub state-late : maxTime < s .time → stateCheck t times s ≡ Refused ImpossibleState
+  unfolding stateCheck
+  state-late l = rw (lt-leb (s .time) maxTime l)
+
+  pub state-impossible : s .time ≤ maxTime → everyBelow n (possible (seen (columns .chain) [] (columns .release)) times s) ≡ false
+      → stateCheck t times s ≡ Refused ImpossibleState
+  unfolding stateCheck
+  state-impossible l e = rw (le-leb (s .time) maxTime l, ← all-possible, e)
+
+  pub state-passes : s .time ≤ maxTime → everyBelow n (possible (seen (columns .chain) [] (columns .release)) times s) ≡ true
+      → stateCheck t times s ≡ Passed
+  unfolding stateCheck
+  state-passes l e = rw (le-leb (s .time) maxTime l, ← all-possible, e)
+
+module _ (t : Table) (times : List ℕ) (s : State) (passed : stateCheck t times s ≡ Passed) where
+  both-passed : leb (s .time) maxTime && everyBelow (t .count) (possible t times s) ≡ true
+  unfolding stateCheck
+  both-passed = by-fit (leb (s .time) maxTime && everyBelow (t .count) (possible t times s)) passed
+    where
+      by-fit : (b : Bool) → unless b ImpossibleState Passed ≡ Passed → b ≡ true
+      by-fit true e = refl
+      by-fit false e = let z : _≡_ {A = ℕ} 0 1 = cc in absurd (omega arith)
+
+  pub passed-early : s .time ≤ maxTime
+  passed-early = leb-true _ _ (and-left (leb (s .time) maxTime) (everyBelow (t .count) (possible t times s)) both-passed)
+
+  pub passed-within : (u : ℕ) → u < t .count → getD (s .work) u 0 ≤ getD times u 0
+  unfolding possible
+  passed-within u l =
+      leb-true _ _ (and-left (leb (getD (s .work) u 0) (getD times u 0)) _
+      (every-at (possible t times s) (t .count) u l (and-right (leb (s .time) maxTime) (everyBelow (t .count) (possible t times s)) both-passed)))
+
+-- ---- a tick on columns that were made from a set
+module _ (set : JobSet) (columns : Columns) (times : List ℕ) (p : Prepared (jobsOf set) columns times) where
+  pub prepared-shown : Shown (tableOf (jobsOf set)) columns (set .count)
+  prepared-shown = subst (Shown (tableOf (jobsOf set)) columns) (length-jobs set) (p .shown)
+
+  pub prepared-few : set .count ≤ maxJobs
+  prepared-few = omega (arith, length-jobs set, set-accepted (jobsOf set) times (p .checked) .few)
+
+  pub prepared-times : set .count ≤ length times
+  prepared-times = omega (arith, length-jobs set, times-each (jobsOf set) times (p .checked))
+
+  module _ (s : State) (best : Best) (e : best ≡ bestOf (seen (columns .chain) (columns .priority) (columns .release)) (pickUpTo (seen (columns .chain) (columns .priority) (columns .release)) times s (set .count))) where
+    pub advance-none : best .found ≡ false → pick (tableOf (jobsOf set)) times s ≡ idle
+    advance-none f = scan-none prepared-shown (length-jobs set) times s best e f
+
+    module _ (f : best .found ≡ true) where
+      pub advance-found : pick (tableOf (jobsOf set)) times s ≡ runs (best .at)
+      advance-found = scan-found prepared-shown (length-jobs set) times s best e f
+
+      pub advance-inside : best .at < set .count
+      advance-inside = omega (arith, pick-chosen (tableOf (jobsOf set)) times s (best .at) advance-found .inside, length-jobs set)
+
+      pub advance-room : best .at < maxJobs
+      advance-room = omega (arith, advance-inside, prepared-few)
+
+      -- with no more work than its running time, the job has work left
+      pub advance-work : getD (s .work) (best .at) 0 ≤ getD times (best .at) 0 → getD (s .work) (best .at) 0 < getD times (best .at) 0
+      advance-work l = let ne = complete-ne times (s .work) (best .at) (pick-open (tableOf (jobsOf set)) times s (best .at) advance-found) in omega arith
+
+      pub advance-ran : tickOf (jobsOf set) times s ≡ record { ticked = Ran (getD (set .jobs) (best .at) noJob .chain) (getD (set .jobs) (best .at) noJob .job); state = moved (runs (best .at)) s }
+      advance-ran = rw (← job-at set (best .at) advance-inside) (tick-ran (jobsOf set) times s (best .at) advance-found)
+
+  pub advance-all : (s : State) (b : Bool) → allComplete times (s .work) (set .count) ≡ b → allComplete times (s .work) (length (jobsOf set)) ≡ b
+  advance-all s b h = ap (allComplete times (s .work)) (length-jobs set) ∙ h
+
+-- ---- the checks of a step, in their order
+pub prepared-of : (set : JobSet) (columns : Columns) (times : List ℕ) → machineCheck (jobsOf set) times ≡ Passed → Shown (tableOf (jobsOf set)) columns (set .count)
+    → Prepared (jobsOf set) columns times
+prepared-of set columns times p h = record { checked = p; shown = subst (Shown (tableOf (jobsOf set)) columns) (sym (length-jobs set)) h }
+
+module _ (js : List Job) (times : List ℕ) (s : State) where
+  pub step-refused : (r : Refusal) → machineCheck js times ≡ Refused r → stepOf js times s ≡ record { ticked = RefusedTick r; state = s }
+  unfolding stepOf stepCheck
+  step-refused r e = rw e
+
+  module _ (passed : machineCheck js times ≡ Passed) where
+    pub step-impossible : (r : Refusal) → stateCheck (tableOf js) times s ≡ Refused r → stepOf js times s ≡ record { ticked = RefusedTick r; state = s }
+    unfolding stepOf stepCheck
+    step-impossible r e = rw (passed, e)
+
+    pub step-ticks : stateCheck (tableOf js) times s ≡ Passed → stepOf js times s ≡ tickOf js times s
+    unfolding stepOf stepCheck
+    step-ticks e = rw (passed, e)

@@ -1,0 +1,277 @@
+-- A trace in its buffer: the spans so far stand there as rows, and one more tick rewrites the last row or adds one. Assumes nothing, but for the run
+-- itself a set and running times that have passed.
+--   Stored    what one more tick makes of the entries
+--   Written   what holds at the head of the loop
+use Prim.Native.Nat.{ℕ, zero, suc, _+_, _-_, _*_, _≤_, _<_}
+use mathlib.Core.Path.{_≡_, refl, sym, ap, subst, _∙_}
+use mathlib.Core.Bool.{true, false}
+use mathlib.Core.List.{List, [], _∷_, _++_, append-assoc}
+use native.Mathlib.Omega.{arith}
+use native.Mathlib.Numerals.{add-one}
+use native.Mathlib.Nat.{add-zero, add-suc, zero-add}
+use lib.Dec.{eqb}
+use lib.ListN.{length, set, drop, length-append}
+use lib.Seq.{take-at, drop-append-add}
+use borrow.Author.Tests.{lt-ltb, lt-leb, le-leb, eqb-true}
+use Rattle.laws.specs.Buffers.{patched}
+use Rattle.laws.proofs.Tests.{by-test, and-left}
+use Rattle.laws.proofs.Buffers.{patched-more, length-patched}
+use Rattle.jobs.specs.declared.job.Job.{Job}
+use Rattle.jobs.specs.declared.refusal.Refusal.{Refusal}
+use Rattle.jobs.specs.declared.refusal.Refusal.the-variants.{ShortBuffer}
+use Rattle.jobs.specs.declared.refusal.Check.the-variants.{Passed, Refused}
+use Rattle.jobs.specs.Limits.{maxJobs}
+use Rattle.jobs.specs.Accepted.{jobAt}
+use Rattle.theory.specs.Table.{Table}
+use Rattle.theory.specs.Releases.{tableOf}
+use Rattle.theory.specs.Runs.{idle, runs}
+use Rattle.machine.specs.declared.trace.Span.{Span}
+use Rattle.machine.specs.declared.trace.Put.{Put}
+use Rattle.machine.specs.declared.trace.Traced.the-variants.{Entries, Refused as RefusedTrace}
+use Rattle.machine.specs.States.{maxTime}
+use Rattle.machine.specs.Times.{machineCheck}
+use Rattle.machine.specs.Ticks.{allComplete}
+use Rattle.machine.specs.Runs.{after, entry}
+use Rattle.machine.specs.Traces.{goesOn, extended, spans, row, rows, roomFor, traceCheck, traced, traceOf, tracedIn}
+use Rattle.machine.specs.Private.{putAt}
+use Rattle.machine.proofs.Running.{lastRelease, few-jobs, released-by, entry-settled, Reached, reached-settled, reached-limit}
+use Rattle.machine.proofs.Spans.{spans-within-twice}
+
+-- ---- four numbers stored one after the other
+stored-at : {A : Type 0} (w x y z : A) (b : List A) (k : ℕ) → suc (suc (suc k)) < length b
+    → set (set (set (set b k w) (suc k) x) (suc (suc k)) y) (suc (suc (suc k))) z ≡ patched b k (w ∷ x ∷ y ∷ z ∷ [])
+unfolding patched
+stored-at w x y z [] k l = absurd (omega arith)
+stored-at w x y z (a ∷ []) zero l = absurd (omega arith)
+stored-at w x y z (a ∷ b ∷ []) zero l = absurd (omega arith)
+stored-at w x y z (a ∷ b ∷ c ∷ []) zero l = absurd (omega arith)
+stored-at w x y z (a ∷ b ∷ c ∷ d ∷ rest) zero l = refl
+stored-at {A} w x y z (a ∷ rest) (suc k) l =
+    let e : suc k + 4 ≡ suc (k + 4) = omega arith in
+    rw e (ap (λ (list : List A). a ∷ list) (stored-at w x y z rest k (omega arith)))
+
+pub four-stored : {A : Type 0} (b : List A) (k : ℕ) (w x y z : A) → k + 3 < length b
+    → set (set (set (set b k w) (k + 1) x) (k + 2) y) (k + 3) z ≡ patched b k (w ∷ x ∷ y ∷ z ∷ [])
+four-stored b k w x y z l =
+    let one : k + 1 ≡ suc k = omega arith in
+    let two : k + 2 ≡ suc (suc k) = omega arith in
+    let three : k + 3 ≡ suc (suc (suc k)) = omega arith in
+    rw (one, two, three) (stored-at w x y z b k (omega arith))
+
+-- a text over an equally long one at the end of what was written from the buffer's start
+pub patched-over : {A : Type 0} (b x y z : List A) → length y ≡ length z → patched (patched b 0 (x ++ y)) (length x) z ≡ patched b 0 (x ++ z)
+unfolding patched
+patched-over b x y z e =
+    let rest = drop (length (x ++ y)) b in
+    let same : length (x ++ y) ≡ length (x ++ z) = omega (arith, length-append x y, length-append x z) in
+    let whole : (x ++ y) ++ rest ≡ x ++ (y ++ rest) = append-assoc x y rest in
+    let long : length z ≡ length y + 0 = omega arith in
+    let past : drop (length x + length z) (x ++ (y ++ rest)) ≡ rest
+    = drop-append-add x (y ++ rest) (length z) ∙ ap (λ (k : ℕ). drop k (y ++ rest)) long ∙ drop-append-add y rest 0 in
+    rw (zero-add, whole, take-at x (y ++ rest) (length x) refl, past, zero-add, ← same)
+
+-- ---- rows
+module _ (js : List Job) where
+  pub rows-length : (ss : List Span) → length (rows js ss) ≡ 4 * length ss
+  unfolding rows
+  rows-length [] = refl
+  rows-length (s ∷ ss) = length-append (rows js ss) (row js s) ∙ omega (arith, rows-length ss)
+
+  pub rows-next : (s : Span) (ss : List Span) → rows js (s ∷ ss) ≡ rows js ss ++ row js s
+  unfolding rows
+  rows-next s ss = refl
+
+-- the latest span
+abbrev pub latest : List Span → Span
+latest [] = record { at = 0; from = 0; to = 0 }
+latest (s ∷ ss) = s
+
+pub record Stored (js : List Job) (ss : List Span) (u time : ℕ) (p : Put) : Type 0 where
+  pub entries-is : p .entries ≡ length (extended ss u time)
+  pub last-is : p .span ≡ latest (extended ss u time)
+  pub job-is : p .span .at ≡ u
+  pub below : p .entry < p .entries
+  pub buffer : (b : List ℕ) → patched (patched b 0 (rows js ss)) (4 * p .entry) (row js (p .span)) ≡ patched b 0 (rows js (extended ss u time))
+
+module _ (js : List Job) (u time : ℕ) where
+  abbrev new : Span
+  new = record { at = u; from = time; to = time + 1 }
+
+  new-buffer : (ss : List Span) (b : List ℕ) → patched (patched b 0 (rows js ss)) (4 * length ss) (row js new) ≡ patched b 0 (rows js (new ∷ ss))
+  new-buffer ss b =
+      let l : 4 * length ss ≡ 0 + length (rows js ss) = omega (arith, rows-length js ss) in
+      rw (l, rows-next) (patched-more b 0 (rows js ss) (row js new) (omega arith))
+
+  extended-fresh : (ss : List Span) → goesOn ss u time ≡ false → extended ss u time ≡ new ∷ ss
+  unfolding extended
+  extended-fresh ss h = rw (h, add-one time)
+
+  fresh : (ss : List Span) → goesOn ss u time ≡ false → Stored js ss u time (record { entry = length ss; entries = length ss + 1; span = new })
+  fresh ss h =
+      let e : extended ss u time ≡ new ∷ ss = extended-fresh ss h in
+      record {
+        entries-is = omega (arith, ap length e);
+        last-is = sym (ap latest e);
+        job-is = refl;
+        below = omega arith;
+        buffer = λ b. new-buffer ss b ∙ ap (λ (l : List Span). patched b 0 (rows js l)) (sym e);
+      }
+
+  abbrev longer : Span → Span
+  longer s = record { at = u; from = s .from; to = time + 1 }
+
+  on-at : (s : Span) (ss : List Span) → goesOn (s ∷ ss) u time ≡ true → s .at ≡ u
+  unfolding goesOn
+  on-at s ss h = eqb-true _ _ (and-left (eqb (s .at) u) (eqb (s .to) time) h)
+
+  extended-goes-on : (s : Span) (ss : List Span) → goesOn (s ∷ ss) u time ≡ true → extended (s ∷ ss) u time ≡ longer s ∷ ss
+  unfolding extended
+  extended-goes-on s ss h = rw (h, on-at s ss h, add-one time)
+
+  goes : (s : Span) (ss : List Span) → goesOn (s ∷ ss) u time ≡ true
+      → Stored js (s ∷ ss) u time (record { entry = suc (length ss) - 1; entries = suc (length ss); span = longer s })
+  goes s ss h =
+      let e : extended (s ∷ ss) u time ≡ longer s ∷ ss = extended-goes-on s ss h in
+      let place : 4 * (suc (length ss) - 1) ≡ length (rows js ss) = omega (arith, rows-length js ss) in
+      record {
+        entries-is = sym (ap length e);
+        last-is = sym (ap latest e);
+        job-is = refl;
+        below = omega arith;
+        buffer = λ b.
+            rw (place, rows-next) (patched-over b (rows js ss) (row js s) (row js (longer s)) refl)
+            ∙ ap (patched b 0) (sym (rows-next js (longer s) ss))
+            ∙ ap (λ (l : List Span). patched b 0 (rows js l)) (sym e);
+      }
+
+  put-none : putAt (latest []) 0 u time ≡ record { entry = 0; entries = 0 + 1; span = new }
+  unfolding putAt
+  put-none = refl
+
+  put-on : (s : Span) (ss : List Span) → goesOn (s ∷ ss) u time ≡ true
+      → putAt s (suc (length ss)) u time ≡ record { entry = suc (length ss) - 1; entries = suc (length ss); span = longer s }
+  unfolding putAt goesOn
+  put-on s ss h = rw (lt-ltb 0 (suc (length ss)) (omega arith), h)
+
+  put-new : (s : Span) (ss : List Span) → goesOn (s ∷ ss) u time ≡ false
+      → putAt s (suc (length ss)) u time ≡ record { entry = suc (length ss); entries = suc (length ss) + 1; span = new }
+  unfolding putAt goesOn
+  put-new s ss h = rw (lt-ltb 0 (suc (length ss)) (omega arith), h)
+
+  none-goes : goesOn [] u time ≡ false
+  unfolding goesOn
+  none-goes = refl
+
+  stored-here : (ss : List Span) → Stored js ss u time (putAt (latest ss) (length ss) u time)
+  stored-here [] = subst (Stored js [] u time) (sym put-none) (fresh [] none-goes)
+  stored-here (s ∷ ss) =
+      by-test (goesOn (s ∷ ss) u time)
+      (λ h. subst (Stored js (s ∷ ss) u time) (sym (put-on s ss h)) (goes s ss h))
+      (λ h. subst (Stored js (s ∷ ss) u time) (sym (put-new s ss h)) (fresh (s ∷ ss) h))
+
+  pub put-stored : (ss : List Span) (last : Span) (n : ℕ) → last ≡ latest ss → n ≡ length ss → Stored js ss u time (putAt last n u time)
+  put-stored ss last n e f = rw (e, f) (stored-here ss)
+
+-- ---- the loop's head
+pub record Written (js : List Job) (times before out : List ℕ) (last : Span) (entries time : ℕ) : Type 0 where
+  pub count : entries ≡ length (spans (tableOf js) times time)
+  pub latest-is : last ≡ latest (spans (tableOf js) times time)
+  pub buffer : out ≡ patched before 0 (rows js (spans (tableOf js) times time))
+
+module _ (js : List Job) (times before : List ℕ) where
+  abbrev t : Table
+  t = tableOf js
+
+  pub written-start : Written js times before before (record { at = 0; from = 0; to = 0 }) 0 0
+  unfolding spans rows patched
+  written-start = record { count = refl; latest-is = refl; buffer = refl }
+
+  spans-ran : (u time : ℕ) → entry t times time ≡ runs u → spans t times (time + 1) ≡ extended (spans t times time) u time
+  unfolding spans
+  spans-ran u time e = rw (add-one, e)
+
+  spans-idle : (time : ℕ) → entry t times time ≡ idle → spans t times (suc time) ≡ spans t times time
+  unfolding spans
+  spans-idle time e = rw e
+
+  spans-settled : (n : ℕ) → allComplete times (after t times n .work) (t .count) ≡ true → (m : ℕ) → spans t times (n + m) ≡ spans t times n
+  spans-settled n h zero = rw add-zero
+  spans-settled n h (suc m) = rw add-suc (spans-idle (n + m) (entry-settled t times n h m) ∙ spans-settled n h m)
+
+  module _ (passed : machineCheck js times ≡ Passed) (room : 8 * length js ≤ length before) {out : List ℕ} {last : Span} {entries time : ℕ}
+      (w : Written js times before out last entries time) where
+    few-spans : (n : ℕ) → length (spans t times n) ≤ 2 * length js
+    few-spans = spans-within-twice t times lastRelease (few-jobs js times passed) (released-by js times passed)
+
+    pub written-few : entries ≤ 2 * maxJobs
+    written-few = omega (arith, w .count, few-spans time, few-jobs js times passed)
+
+    pub written-length : length out ≡ length before
+    written-length = ap length (w .buffer) ∙ length-patched before 0 (rows js (spans t times time)) (omega (arith, rows-length js (spans t times time), few-spans time))
+
+    pub written-idle : entry t times time ≡ idle → Written js times before out last entries (time + 1)
+    written-idle e =
+        let q : spans t times (time + 1) ≡ spans t times time = rw add-one (spans-idle time e) in
+        record { count = w .count ∙ ap length (sym q); latest-is = w .latest-is ∙ ap latest (sym q); buffer = w .buffer ∙ ap (λ (l : List Span). patched before 0 (rows js l)) (sym q) }
+
+    -- the job at u runs
+    module _ (u : ℕ) (e : entry t times time ≡ runs u) (p : Put) (q : p ≡ putAt last entries u time) where
+      here : Stored js (spans t times time) u time p
+      here = subst (Stored js (spans t times time) u time) (sym q) (put-stored js u time (spans t times time) last entries (w .latest-is) (w .count))
+
+      pub put-room : 4 * p .entry + 3 < length out
+      put-room = omega (arith, here .below, here .entries-is, ap length (spans-ran u time e), few-spans (time + 1), written-length)
+
+      pub put-few : 4 * p .entry + 3 < 8 * maxJobs
+      put-few = omega (arith, here .below, here .entries-is, ap length (spans-ran u time e), few-spans (time + 1), few-jobs js times passed)
+
+      pub written-ran : (chain job : ℕ) → chain ≡ jobAt js u .chain → job ≡ jobAt js u .job
+          → Written js times before (set (set (set (set out (4 * p .entry) chain) (4 * p .entry + 1) job) (4 * p .entry + 2) (p .span .from)) (4 * p .entry + 3) (p .span .to)) (p .span) (p .entries) (time + 1)
+      written-ran chain job c j =
+          let s = spans-ran u time e in
+          let k = 4 * p .entry in
+          let c' : chain ≡ jobAt js (p .span .at) .chain = c ∙ ap (λ (i : ℕ). jobAt js i .chain) (sym (here .job-is)) in
+          let j' : job ≡ jobAt js (p .span .at) .job = j ∙ ap (λ (i : ℕ). jobAt js i .job) (sym (here .job-is)) in
+          record {
+            count = here .entries-is ∙ ap length (sym s);
+            latest-is = here .last-is ∙ ap latest (sym s);
+            buffer =
+                four-stored out k chain job (p .span .from) (p .span .to) put-room
+                ∙ rw (c', j', w .buffer) (here .buffer before)
+                ∙ ap (λ (l : List Span). patched before 0 (rows js l)) (sym s);
+          }
+
+    -- the end
+    module _ {work : List ℕ} {left : ℕ} (r : Reached js times work left time) (none : left ≤ 0) where
+      whole : traced js times ≡ spans t times time
+      whole =
+          let e : time + (maxTime - time) ≡ maxTime = omega (arith, reached-limit js times passed r none) in
+          subst (λ (n : ℕ). spans t times n ≡ spans t times time) e (spans-settled time (reached-settled js times passed r none) (maxTime - time))
+
+      pub written-count : entries ≡ length (traced js times)
+      written-count = w .count ∙ ap length (sym whole)
+
+      pub written-all : out ≡ patched before 0 (rows js (traced js times))
+      written-all = w .buffer ∙ ap (λ (l : List Span). patched before 0 (rows js l)) (sym whole)
+
+-- ---- the checks
+module _ (js : List Job) (times buffer : List ℕ) where
+  pub trace-refused : (r : Refusal) → machineCheck js times ≡ Refused r → (traceOf js times (length buffer) ≡ RefusedTrace r) × (tracedIn js times buffer ≡ buffer)
+  unfolding traceOf tracedIn traceCheck
+  trace-refused r e = (rw e, rw e)
+
+  module _ (passed : machineCheck js times ≡ Passed) where
+    pub trace-short : length buffer < 8 * length js → (traceOf js times (length buffer) ≡ RefusedTrace ShortBuffer) × (tracedIn js times buffer ≡ buffer)
+    unfolding traceOf tracedIn traceCheck roomFor
+    trace-short l = (rw (passed, lt-leb (8 * length js) (length buffer) l), rw (passed, lt-leb (8 * length js) (length buffer) l))
+
+    pub trace-written : 8 * length js ≤ length buffer
+        → (traceOf js times (length buffer) ≡ Entries (length (traced js times))) × (tracedIn js times buffer ≡ patched buffer 0 (rows js (traced js times)))
+    unfolding traceOf tracedIn traceCheck roomFor
+    trace-written l = (rw (passed, le-leb (8 * length js) (length buffer) l), rw (passed, le-leb (8 * length js) (length buffer) l))
+
+pub traced-length : (js : List Job) (times buffer : List ℕ) → machineCheck js times ≡ Passed → 8 * length js ≤ length buffer
+    → length (patched buffer 0 (rows js (traced js times))) ≡ length buffer
+traced-length js times buffer passed room =
+    length-patched buffer 0 (rows js (traced js times))
+    (omega (arith, rows-length js (traced js times), spans-within-twice (tableOf js) times lastRelease (few-jobs js times passed) (released-by js times passed) maxTime))

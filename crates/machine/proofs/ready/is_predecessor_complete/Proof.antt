@@ -1,0 +1,53 @@
+-- `is_predecessor_complete` meets its contract. Assumes nothing.
+use Prim.Native.Nat.{_-_}
+use mathlib.Core.Path.{sym, _∙_}
+use native.Mathlib.Omega.{arith}
+use borrow.Author.Needs.{needs}
+use Rattle.machine.proofs.Readiness.{predecessor-first, predecessor-apart, predecessor-of}
+use Rattle.machine.proofs.ready.is_predecessor_complete.Statement.{statement}
+use Rattle.machine.proofs.ready.is_predecessor_complete.Tie as tie
+
+returns : tie.Need-returns
+returns c = sym (rw (c .if1 .taken) (predecessor-first _ _ _))
+
+sub-if2 : tie.Need-sub-if2
+sub-if2 c = search needs
+
+mul-if2 : tie.Need-mul-if2
+mul-if2 c = search needs
+
+element-copy-out-if2 : tie.Need-element-copy-out-if2
+element-copy-out-if2 c = search needs
+
+mul-if2-2 : tie.Need-mul-if2-2
+mul-if2-2 c = search needs
+
+element-copy-out-if2-2 : tie.Need-element-copy-out-if2-2
+element-copy-out-if2-2 c = search needs
+
+returns-2 : tie.Need-returns-2
+returns-2 c = sym (predecessor-apart _ _ _ _ (omega arith) (c .if2 .taken))
+
+sub-is-complete : tie.Need-sub-is-complete
+sub-is-complete c = search needs
+
+is-complete-requires : tie.Need-is-complete-requires
+is-complete-requires c κs = search needs
+
+returns-3 : tie.Need-returns-3
+returns-3 c = c .is-complete .ensures ∙ sym (predecessor-of _ _ _ _ (omega arith) (c .before .if2 .left))
+
+pub is-predecessor-complete-spec : {M : Type 1} → statement M
+is-predecessor-complete-spec =
+    tie.close
+    (tie.spec
+    returns
+    sub-if2
+    mul-if2
+    element-copy-out-if2
+    mul-if2-2
+    element-copy-out-if2-2
+    returns-2
+    sub-is-complete
+    is-complete-requires
+    returns-3)

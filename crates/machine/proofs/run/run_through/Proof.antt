@@ -1,0 +1,120 @@
+-- `run_through` meets its contract. The loop's invariant: the state of the run at this time is reached, and its completions are noted. Assumes nothing.
+use Prim.Native.Nat.{_<_, _-_}
+use mathlib.Core.Path.{_≡_}
+use mathlib.Core.Logic.{⊎-elim}
+use mathlib.Core.Bool.{true}
+use native.Mathlib.Omega.{arith}
+use lib.ListN.{getD}
+use borrow.Author.Needs.{needs}
+use denote.Ref.{now}
+use Rattle.jobs.specs.Limits.{maxJobs}
+use Rattle.jobs.specs.Jobs.{jobsOf}
+use Rattle.machine.specs.States.{maxTime}
+use Rattle.machine.specs.Private.{Prepared}
+use Rattle.machine.proofs.RunningTimes.{set-accepted, times-brief}
+use Rattle.machine.proofs.Ticking.{prepared-of, prepared-few, prepared-times}
+use Rattle.machine.proofs.Running.{Reached, reached-start, reached-early, reached-finish, Noted, noted-start, noted-ran, noted-idle, noted-all, run-done, tick-room, tick-work, tick-reached, tick-entry, idle-reached, idle-entry}
+use Rattle.machine.proofs.run.run_through.Statement.{statement}
+use Rattle.machine.proofs.run.run_through.Tie as tie
+
+abbrev Inv-loop : tie.InvT-loop
+Inv-loop set times chain priority release work₀ completions₀ left₀ time₀ work completions left time = Reached (jobsOf set) times work left time × Noted (jobsOf set) times completions time
+
+abbrev μ-loop : tie.MeasureT-loop
+μ-loop set times chain priority release work₀ completions₀ left₀ time₀ work completions left time = maxTime - time
+
+prepared : (c : tie.After-columns-of Inv-loop μ-loop) → Prepared (jobsOf (c .before .before .args .set)) (c .columns-of .result) (now (c .before .before .args .times))
+prepared c = prepared-of _ _ _ (c .before .before .pre) (c .columns-of .ensures)
+
+-- what is known after the scan
+module _ (c : tie.After-best-of Inv-loop μ-loop) where
+  abbrev made : tie.After-columns-of Inv-loop μ-loop
+  made = c .before .before .before .before .before .before .before .before .before .before .before
+
+  abbrev head : tie.At-loop Inv-loop μ-loop
+  head = c .before .before .before .before .before .before
+
+  more : 0 < head .loop .left
+  more = c .before .before .before .before .before .loop-test .taken
+
+  module _ (f : c .best-of .result .found ≡ true) where
+    room : c .best-of .result .at < maxJobs
+    room = tick-room _ _ _ (prepared made) (head .loop .inv .0) more _ (c .best-of .ensures) f
+
+    work-left : getD (head .loop .work) (c .best-of .result .at) 0 < getD (now (made .before .before .args .times)) (c .best-of .result .at) 0
+    work-left = tick-work _ _ _ (prepared made) (head .loop .inv .0) more _ (c .best-of .ensures) f
+
+columns-of-requires : tie.Need-columns-of-requires Inv-loop μ-loop
+columns-of-requires c κs = set-accepted _ _ (c .before .pre)
+
+total-requires : tie.Need-total-requires Inv-loop μ-loop
+total-requires c κs = times-brief _ _ (c .before .before .before .before .before .pre)
+
+loop-holds : tie.Need-loop-holds Inv-loop μ-loop
+loop-holds c = (reached-start _ _ (c .before .before .before .before .before .before .pre) _ (c .total .ensures), noted-start _ _ (c .before .before .before .before .before .before .pre))
+
+best-of-requires : tie.Need-best-of-requires Inv-loop μ-loop
+best-of-requires c κs = (prepared-few _ _ _ (prepared (c .before .before .before .before .before .before .before .before .before .before)), prepared-times _ _ _ (prepared (c .before .before .before .before .before .before .before .before .before .before)))
+
+mul-work : tie.Need-mul-work Inv-loop μ-loop
+mul-work c = omega (arith, room (c .before) (c .if1 .taken))
+
+array-read-work : tie.Need-array-read-work Inv-loop μ-loop
+array-read-work c = room (c .before) (c .if1 .taken)
+
+add-work : tie.Need-add-work Inv-loop μ-loop
+add-work c = omega (arith, work-left (c .before) (c .if1 .taken), c .before .before .before .before .before .before .before .before .before .before .before .before .before .shared-slice-known .given (c .before .best-of .result .at))
+
+mul-work-2 : tie.Need-mul-work-2 Inv-loop μ-loop
+mul-work-2 c = omega (arith, room (c .before) (c .if1 .taken))
+
+array-write-work : tie.Need-array-write-work Inv-loop μ-loop
+array-write-work c = room (c .before) (c .if1 .taken)
+
+add-completions : tie.Need-add-completions Inv-loop μ-loop
+add-completions c = omega (arith, reached-early _ _ (c .before .before .before .before .before .before .before .before .before .before .before .before .before .before .pre) (c .before .before .before .before .before .before .before .loop .inv .0) (c .before .before .before .before .before .before .loop-test .taken))
+
+mul-completions : tie.Need-mul-completions Inv-loop μ-loop
+mul-completions c = omega (arith, room (c .before) (c .if1 .taken))
+
+array-write-completions : tie.Need-array-write-completions Inv-loop μ-loop
+array-write-completions c = room (c .before) (c .if1 .taken)
+
+sub-left : tie.Need-sub-left Inv-loop μ-loop
+sub-left c = search needs
+
+add-time : tie.Need-add-time Inv-loop μ-loop
+add-time c = omega (arith, reached-early _ _ (c .before .before .before .before .before .before .before .before .before .before .before .before .before .before .pre) (c .before .before .before .before .before .before .before .loop .inv .0) (c .before .before .before .before .before .before .loop-test .taken))
+
+loop-less : tie.Need-loop-less Inv-loop μ-loop
+loop-less c = omega (arith, reached-early _ _ (c .before .before .before .before .before .before .before .before .before .before .before .before .before .before .pre) (c .before .before .before .before .before .before .before .loop .inv .0) (c .before .before .before .before .before .before .loop-test .taken))
+
+loop-again : tie.Need-loop-again Inv-loop μ-loop
+loop-again c = ⊎-elim (λ w. rw (w .1, w .2, w .3) (tick-reached _ _ _ (prepared (c .before .before .before .before .before .before .before .before .before .before .before .before)) (c .before .before .before .before .before .before .before .loop .inv .0) (c .before .before .before .before .before .before .loop-test .taken) _ (c .before .best-of .ensures) (w .0 .taken), noted-ran _ _ (c .before .before .before .before .before .before .before .before .before .before .before .before .before .before .pre) (c .before .before .before .before .before .before .before .loop .inv .1) _ (room (c .before) (w .0 .taken)) (tick-entry _ _ _ (prepared (c .before .before .before .before .before .before .before .before .before .before .before .before)) (c .before .before .before .before .before .before .before .loop .inv .0) (c .before .before .before .before .before .before .loop-test .taken) _ (c .before .best-of .ensures) (w .0 .taken)))) (λ w. rw (w .1, w .2, w .3) (idle-reached _ _ _ (prepared (c .before .before .before .before .before .before .before .before .before .before .before .before)) (c .before .before .before .before .before .before .before .loop .inv .0) (c .before .before .before .before .before .before .loop-test .taken) _ (c .before .best-of .ensures) (w .0 .left), noted-idle _ _ (c .before .before .before .before .before .before .before .before .before .before .before .before .before .before .pre) (c .before .before .before .before .before .before .before .loop .inv .1) (idle-entry _ _ _ (prepared (c .before .before .before .before .before .before .before .before .before .before .before .before)) (c .before .before .before .before .before .before .before .loop .inv .0) (c .before .before .before .before .before .before .loop-test .taken) _ (c .before .best-of .ensures) (w .0 .left)))) (c .if1 .came)
+
+returns : tie.Need-returns Inv-loop μ-loop
+returns c = run-done _ _ (c .before .before .before .before .before .before .before .before .pre) _ _ _ (reached-finish _ _ (c .before .before .before .before .before .before .before .before .pre) (c .before .loop .inv .0) (c .loop-test .left)) (noted-all _ _ (c .before .before .before .before .before .before .before .before .pre) (c .before .loop .inv .1) (c .before .loop .inv .0) (c .loop-test .left))
+
+pub run-through-spec : {M : Type 1} → statement M
+run-through-spec =
+    tie.close
+    (tie.spec
+    Inv-loop
+    μ-loop
+    columns-of-requires
+    total-requires
+    loop-holds
+    best-of-requires
+    mul-work
+    array-read-work
+    add-work
+    mul-work-2
+    array-write-work
+    add-completions
+    mul-completions
+    array-write-completions
+    sub-left
+    add-time
+    loop-less
+    loop-again
+    returns)

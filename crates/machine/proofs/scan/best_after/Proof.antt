@@ -1,0 +1,21 @@
+-- `best_after` meets its contract. Assumes nothing.
+use mathlib.Core.Path.{sym, _∙_}
+use borrow.Author.Needs.{needs}
+use Rattle.machine.proofs.scan.best_after.Statement.{statement}
+use Rattle.machine.proofs.scan.best_after.Tie as tie
+
+is-ready-record-requires : tie.Need-is-ready-record-requires
+is-ready-record-requires c κs = search needs
+
+better-of-requires : tie.Need-better-of-requires
+better-of-requires c κs = search needs
+
+returns : tie.Need-returns
+returns c = simp (sym (c .before .before .is-ready-record .ensures) ∙ c .before .if1 .taken) (c .better-of .ensures)
+
+returns-2 : tie.Need-returns-2
+returns-2 c = simp (sym (c .before .is-ready-record .ensures) ∙ c .if1 .left)
+
+pub best-after-spec : {M : Type 1} → statement M
+best-after-spec =
+    tie.close (tie.spec is-ready-record-requires better-of-requires returns returns-2)

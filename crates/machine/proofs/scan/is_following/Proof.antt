@@ -1,0 +1,12 @@
+-- `is_following` meets its contract. Assumes nothing.
+use borrow.Author.Needs.{needs}
+use Rattle.machine.specs.Scans.{follows}
+use Rattle.machine.proofs.scan.is_following.Statement.{statement}
+use Rattle.machine.proofs.scan.is_following.Tie as tie
+
+returns : tie.Need-returns
+unfolding follows
+returns c = search needs
+
+pub is-following-spec : {M : Type 1} → statement M
+is-following-spec = tie.close (tie.spec returns)

@@ -1,0 +1,27 @@
+-- `put_at` meets its contract. Assumes nothing.
+use mathlib.Core.Logic.{⊎-elim}
+use borrow.Author.Tests.{lt-ltb, le-ltb}
+use borrow.Author.Needs.{needs}
+use Rattle.machine.specs.Private.{putAt}
+use Rattle.machine.proofs.trace.put_at.Statement.{statement}
+use Rattle.machine.proofs.trace.put_at.Tie as tie
+
+add-to : tie.Need-add-to
+add-to c = search needs
+
+sub-t10 : tie.Need-sub-t10
+sub-t10 c = search needs
+
+returns : tie.Need-returns
+unfolding putAt
+returns c = rw (lt-ltb _ _ (c .before .before .before .if1 .taken), c .if2 .taken)
+
+add-t12 : tie.Need-add-t12
+add-t12 c = search needs
+
+returns-2 : tie.Need-returns-2
+unfolding putAt
+returns-2 c = ⊎-elim (λ w. rw (lt-ltb _ _ (w .0 .taken), w .3 .left)) (λ w. rw (le-ltb _ _ (w .left))) (c .if1 .came)
+
+pub put-at-spec : {M : Type 1} → statement M
+put-at-spec = tie.close (tie.spec add-to sub-t10 returns add-t12 returns-2)

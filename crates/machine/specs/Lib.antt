@@ -1,0 +1,12 @@
+pub mod Every
+pub mod States
+pub mod Times
+pub mod Ready
+pub mod Pick
+pub mod Ticks
+pub mod Steps
+pub mod Runs
+pub mod Traces
+pub mod Claims
+pub mod Private
+pub mod Scans

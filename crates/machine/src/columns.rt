@@ -1,0 +1,56 @@
+// The figures of a set that the scan reads at every tick, as columns; effective releases are worked out once.
+ghost use mathlib.Core.Path.{_≡_};
+ghost use Prim.Native.Nat.{_+_, _<_, _^_};
+ghost use Rattle.jobs.specs.Jobs.{jobsOf};
+ghost use Rattle.jobs.specs.Accepted.{Accepted};
+ghost use Rattle.theory.specs.Releases.{tableOf};
+ghost use Rattle.machine.specs.Private.{Shown, carried};
+use jobs::job::Job;
+use jobs::set::JobSet;
+
+pub struct Columns {
+    pub chain: [u64; JobSet::MAX_JOBS],
+    pub priority: [u64; JobSet::MAX_JOBS],
+    pub release: [u64; JobSet::MAX_JOBS],
+}
+
+// The effective release of a job that comes after another one, whose effective release is before.
+fn release_after(last: Job, before: u64, job: Job) -> u64
+    requires { ⌜ before + last .least < 2 ^ 64 ⌝ }
+    ensures { λ r. ⌜ r ≡ carried last before job ⌝ }
+{
+    if last.chain == job.chain {
+        let earliest = before + last.least;
+        if job.release < earliest {
+            return earliest;
+        }
+    }
+    job.release
+}
+
+pub(crate) fn columns_of(set: JobSet) -> Columns
+    requires { ⌜ Accepted (jobsOf set) ⌝ }
+    ensures { λ r. ⌜ Shown (tableOf (jobsOf set)) r (set .count) ⌝ }
+{
+    let mut chain = [0u64; JobSet::MAX_JOBS];
+    let mut priority = [0u64; JobSet::MAX_JOBS];
+    let mut release = [0u64; JobSet::MAX_JOBS];
+    let count = set.count;
+    let mut last = Job::none();
+    let mut before: u64 = 0;
+    let mut n: usize = 0;
+    while n < count {
+        let job = set.jobs[n];
+        before = release_after(last, before, job);
+        chain[n] = job.chain;
+        priority[n] = job.priority;
+        release[n] = before;
+        last = job;
+        n += 1;
+    }
+    Columns {
+        chain,
+        priority,
+        release,
+    }
+}

@@ -1,0 +1,11 @@
+// The machine that runs the jobs of a set tick by tick, by the priority rule.
+pub mod columns;
+pub mod pick;
+pub mod ready;
+pub mod run;
+pub mod scan;
+pub mod state;
+pub mod step;
+pub mod tick;
+pub mod times;
+pub mod trace;

@@ -1,0 +1,93 @@
+// The pick: of the ready jobs, the one of highest priority and, among equals, of the lowest chain number.
+ghost use mathlib.Core.Path.{_≡_};
+ghost use Prim.Native.Nat.{_<_, _≤_};
+ghost use lib.ListN.{length};
+ghost use Rattle.jobs.specs.Limits.{maxJobs};
+ghost use Rattle.machine.specs.Pick.{outranks, pickUpTo};
+ghost use Rattle.machine.specs.Private.{seen, stateOf, bestOf, better, considered};
+use crate::ready::is_ready;
+use jobs::set::JobSet;
+
+// The best ready job so far.
+pub struct Best {
+    pub found: bool,
+    pub at: usize,
+    pub priority: u64,
+    pub chain: u64,
+}
+
+// Whether a job of this priority and chain goes before the best so far.
+fn is_outranking(priority: u64, chain: u64, best: Best) -> bool
+    ensures { λ r. ⌜ r ≡ outranks priority chain (best .priority) (best .chain) ⌝ }
+{
+    if best.priority < priority {
+        return true;
+    }
+    if priority == best.priority {
+        return chain < best.chain;
+    }
+    false
+}
+
+// A ready job takes the place of the best so far where it goes before it.
+pub(crate) fn better_of(best: Best, at: usize, priority: u64, chain: u64) -> Best
+    ensures { λ r. ⌜ r ≡ better best at priority chain ⌝ }
+{
+    if best.found {
+        if !is_outranking(priority, chain, best) {
+            return best;
+        }
+    }
+    Best {
+        found: true,
+        at,
+        priority,
+        chain,
+    }
+}
+
+fn consider<'a, 'b>(
+    best: Best,
+    at: usize,
+    chain: &'a [u64; JobSet::MAX_JOBS],
+    priority: &'a [u64; JobSet::MAX_JOBS],
+    release: &'a [u64; JobSet::MAX_JOBS],
+    times: &'a [u64],
+    work: &'b [u64; JobSet::MAX_JOBS],
+    time: u64,
+) -> Best
+    requires { ⌜ (at < maxJobs) × (at < length (now times)) ⌝ }
+    ensures { λ r. ⌜ r ≡ considered (seen (now (chain .entry)) (now (priority .entry)) (now (release .entry))) (now (times .entry)) (stateOf time (now (work .entry))) best at ⌝ }
+{
+    if !is_ready(at, chain, release, times, work, time) {
+        return best;
+    }
+    better_of(best, at, priority[at], chain[at])
+}
+
+// The pick of the first count jobs.
+pub(crate) fn best_of<'a, 'b>(
+    count: usize,
+    chain: &'a [u64; JobSet::MAX_JOBS],
+    priority: &'a [u64; JobSet::MAX_JOBS],
+    release: &'a [u64; JobSet::MAX_JOBS],
+    times: &'a [u64],
+    work: &'b [u64; JobSet::MAX_JOBS],
+    time: u64,
+) -> Best
+    requires { ⌜ (count ≤ maxJobs) × (count ≤ length (now times)) ⌝ }
+    ensures { λ r. ⌜ r ≡ bestOf (seen (now (chain .entry)) (now (priority .entry)) (now (release .entry))) (pickUpTo (seen (now (chain .entry)) (now (priority .entry)) (now (release .entry))) (now (times .entry)) (stateOf time (now (work .entry))) count) ⌝ }
+{
+    let mut best = Best {
+        found: false,
+        at: 0,
+        priority: 0,
+        chain: 0,
+    };
+    let mut n: usize = 0;
+    while n < count {
+        best = consider(best, n, chain, priority, release, times, work, time);
+        n += 1;
+    }
+    best
+}

@@ -1,0 +1,78 @@
+// Which jobs are ready, from columns of their figures.
+ghost use mathlib.Core.Path.{_≡_};
+ghost use mathlib.Core.List.{[]};
+ghost use Prim.Native.Nat.{_<_, _≤_};
+ghost use lib.ListN.{length};
+ghost use Rattle.jobs.specs.Limits.{maxJobs};
+ghost use Rattle.machine.specs.Ready.{complete, predecessorComplete, ready};
+ghost use Rattle.machine.specs.Ticks.{allComplete};
+ghost use Rattle.machine.specs.Private.{seen, stateOf};
+use jobs::set::JobSet;
+
+pub(crate) fn is_complete<'a, 'b>(
+    at: usize,
+    times: &'a [u64],
+    work: &'b [u64; JobSet::MAX_JOBS],
+) -> bool
+    requires { ⌜ (at < maxJobs) × (at < length (now times)) ⌝ }
+    ensures { λ r. ⌜ r ≡ complete (now (times .entry)) (now (work .entry)) at ⌝ }
+{
+    work[at] == times[at]
+}
+
+pub(crate) fn is_predecessor_complete<'a, 'b>(
+    at: usize,
+    chain: &'a [u64; JobSet::MAX_JOBS],
+    times: &'a [u64],
+    work: &'b [u64; JobSet::MAX_JOBS],
+) -> bool
+    requires { ⌜ (at < maxJobs) × (at < length (now times)) ⌝ }
+    ensures { λ r. ⌜ r ≡ predecessorComplete (seen (now (chain .entry)) [] []) (now (times .entry)) (now (work .entry)) at ⌝ }
+{
+    if at == 0 {
+        return true;
+    }
+    if chain[at - 1] != chain[at] {
+        return true;
+    }
+    is_complete(at - 1, times, work)
+}
+
+pub(crate) fn is_ready<'a, 'b>(
+    at: usize,
+    chain: &'a [u64; JobSet::MAX_JOBS],
+    release: &'a [u64; JobSet::MAX_JOBS],
+    times: &'a [u64],
+    work: &'b [u64; JobSet::MAX_JOBS],
+    time: u64,
+) -> bool
+    requires { ⌜ (at < maxJobs) × (at < length (now times)) ⌝ }
+    ensures { λ r. ⌜ r ≡ ready (seen (now (chain .entry)) [] (now (release .entry))) (now (times .entry)) (stateOf time (now (work .entry))) at ⌝ }
+{
+    if time < release[at] {
+        return false;
+    }
+    if is_complete(at, times, work) {
+        return false;
+    }
+    is_predecessor_complete(at, chain, times, work)
+}
+
+// Whether the first count jobs are complete.
+pub(crate) fn are_complete<'a, 'b>(
+    count: usize,
+    times: &'a [u64],
+    work: &'b [u64; JobSet::MAX_JOBS],
+) -> bool
+    requires { ⌜ (count ≤ maxJobs) × (count ≤ length (now times)) ⌝ }
+    ensures { λ r. ⌜ r ≡ allComplete (now (times .entry)) (now (work .entry)) count ⌝ }
+{
+    let mut n: usize = 0;
+    while n < count {
+        if !is_complete(n, times, work) {
+            return false;
+        }
+        n += 1;
+    }
+    true
+}

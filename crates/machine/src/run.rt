@@ -1,0 +1,62 @@
+// The run from time 0.
+ghost use mathlib.Core.Path.{_≡_};
+ghost use Rattle.jobs.specs.Jobs.{jobsOf};
+ghost use Rattle.machine.specs.Times.{machineCheck};
+ghost use Rattle.machine.specs.Runs.{runOf};
+use crate::columns::columns_of;
+use crate::pick::best_of;
+use crate::times::check_times;
+use crate::times::total;
+use jobs::refusal::Check;
+use jobs::set::JobSet;
+
+// Each job's completion time, 0 in the other places, and the end of the run; all 0 on a refusal.
+pub struct Completed {
+    pub check: Check,
+    pub completions: [u64; JobSet::MAX_JOBS],
+    pub end: u64,
+}
+
+// The run of a set and running times that have passed: until no work is left.
+fn run_through(set: JobSet, times: &[u64]) -> Completed
+    requires { ⌜ machineCheck (jobsOf set) (now times) ≡ Check.Passed ⌝ }
+    ensures { λ r. ⌜ r ≡ runOf (jobsOf set) (now (times .entry)) ⌝ }
+{
+    let columns = columns_of(set);
+    let chain = columns.chain;
+    let priority = columns.priority;
+    let release = columns.release;
+    let mut work = [0u64; JobSet::MAX_JOBS];
+    let mut completions = [0u64; JobSet::MAX_JOBS];
+    let mut left = total(times);
+    let mut time: u64 = 0;
+    while 0 < left {
+        let best = best_of(set.count, &chain, &priority, &release, times, &work, time);
+        if best.found {
+            let at = best.at;
+            work[at] = work[at] + 1;
+            completions[at] = time + 1;
+            left -= 1;
+        }
+        time += 1;
+    }
+    Completed {
+        check: Check::Passed,
+        completions,
+        end: time,
+    }
+}
+
+// Refusals 4 to 7, then 8, then the run from time 0 until all jobs are complete.
+pub fn run(set: JobSet, times: &[u64]) -> Completed
+    ensures { λ r. ⌜ r ≡ runOf (jobsOf set) (now (times .entry)) ⌝ }
+{
+    if let Check::Refused(refusal) = check_times(set, times) {
+        return Completed {
+            check: Check::Refused(refusal),
+            completions: [0; JobSet::MAX_JOBS],
+            end: 0,
+        };
+    }
+    run_through(set, times)
+}

@@ -1,0 +1,145 @@
+// The scan over lent job records, which changes none.
+ghost use mathlib.Core.Path.{_≡_};
+ghost use lib.ListN.{length, getD};
+ghost use mathlib.Core.Bool.{cond};
+ghost use Rattle.machine.specs.Private.{better};
+ghost use Rattle.machine.specs.Scans.{follows, releasedBy, sinceBy, kept, readyBy, lookedAt, scanOf};
+use crate::pick::Best;
+use crate::pick::better_of;
+use crate::state::State;
+use jobs::job::Job;
+
+// What a scan knows: the most urgent ready job so far, and of the last record its chain, its least time, whether it is complete, and whether and for how
+// long it is released.
+pub struct Scan {
+    pub found: bool,
+    pub at: usize,
+    pub priority: u64,
+    pub chain: u64,
+    pub last: u64,
+    pub least: u64,
+    pub done: bool,
+    pub released: bool,
+    pub since: u64,
+}
+
+// The number at a place, 0 beyond the end.
+fn number_at(numbers: &[u64], at: usize) -> u64
+    ensures { λ r. ⌜ r ≡ getD (now (numbers .entry)) at 0 ⌝ }
+{
+    if at < numbers.len() { numbers[at] } else { 0 }
+}
+
+// Whether a record is of the chain of the one before it.
+fn is_following(scan: Scan, job: Job, at: usize) -> bool
+    ensures { λ r. ⌜ r ≡ follows scan job at ⌝ }
+{
+    (0 < at) & (scan.last == job.chain)
+}
+
+// Whether the effective release of a record is at most the time.
+fn is_released(scan: Scan, job: Job, at: usize, time: u64) -> bool
+    ensures { λ r. ⌜ r ≡ releasedBy scan job at time ⌝ }
+{
+    if !is_following(scan, job, at) {
+        return job.release <= time;
+    }
+    (job.release <= time) & (scan.released & (scan.least <= scan.since))
+}
+
+// The ticks since the effective release of a record, 0 where it is not released.
+fn since_release(scan: Scan, job: Job, at: usize, time: u64) -> u64
+    ensures { λ r. ⌜ r ≡ sinceBy scan job at time ⌝ }
+{
+    if !is_released(scan, job, at, time) {
+        return 0;
+    }
+    let own = time - job.release;
+    if !is_following(scan, job, at) {
+        return own;
+    }
+    let chain = scan.since - scan.least;
+    if chain < own {
+        return chain;
+    }
+    own
+}
+
+// Whether a record is ready.
+fn is_ready_record(scan: Scan, job: Job, at: usize, times: &[u64], state: State) -> bool
+    ensures { λ r. ⌜ r ≡ readyBy scan job at (now (times .entry)) state ⌝ }
+{
+    let work = state.work;
+    if !is_released(scan, job, at, state.time) {
+        return false;
+    }
+    if number_at(&work, at) == number_at(times, at) {
+        return false;
+    }
+    if is_following(scan, job, at) {
+        return scan.done;
+    }
+    true
+}
+
+// The best of a scan after one more record.
+fn best_after(scan: Scan, job: Job, at: usize, times: &[u64], state: State) -> Best
+    ensures { λ r. ⌜ r ≡ cond (readyBy scan job at (now (times .entry)) state) (better (kept scan) at (job .priority) (job .chain)) (kept scan) ⌝ }
+{
+    let best = Best {
+        found: scan.found,
+        at: scan.at,
+        priority: scan.priority,
+        chain: scan.chain,
+    };
+    if is_ready_record(scan, job, at, times, state) {
+        return better_of(best, at, job.priority, job.chain);
+    }
+    best
+}
+
+// One record is looked at.
+fn look_at(scan: Scan, job: Job, at: usize, times: &[u64], state: State) -> Scan
+    ensures { λ r. ⌜ r ≡ lookedAt scan job at (now (times .entry)) state ⌝ }
+{
+    let work = state.work;
+    let done = number_at(&work, at) == number_at(times, at);
+    let best = best_after(scan, job, at, times, state);
+    let released = is_released(scan, job, at, state.time);
+    let since = since_release(scan, job, at, state.time);
+    Scan {
+        found: best.found,
+        at: best.at,
+        priority: best.priority,
+        chain: best.chain,
+        last: job.chain,
+        least: job.least,
+        done,
+        released,
+        since,
+    }
+}
+
+// The most urgent ready job of the lent records, by the rule that a step uses.
+pub fn most_urgent(jobs: &[Job], times: &[u64], state: State) -> Scan
+    ensures { λ r. ⌜ r ≡ scanOf (now (jobs .entry)) (now (times .entry)) state (length (now (jobs .entry))) ⌝ }
+{
+    let mut scan = Scan {
+        found: false,
+        at: 0,
+        priority: 0,
+        chain: 0,
+        last: 0,
+        least: 0,
+        done: false,
+        released: false,
+        since: 0,
+    };
+    let mut i: usize = 0;
+    while i < jobs.len() {
+        let job = jobs[i];
+        scan = look_at(scan, job, i, times, state);
+        i += 1;
+    }
+    scan
+}

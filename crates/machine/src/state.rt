@@ -1,0 +1,22 @@
+// The machine's state: the time, and the ticks of work done of each job.
+ghost use mathlib.Core.Path.{_≡_};
+ghost use Rattle.machine.specs.States.{start};
+use jobs::set::JobSet;
+
+pub struct State {
+    pub time: u64,
+    pub work: [u64; JobSet::MAX_JOBS],
+}
+
+impl State {
+    pub const MAX_TIME: u64 = 2000000000;
+
+    pub fn start() -> State
+        ensures { λ r. ⌜ r ≡ start ⌝ }
+    {
+        State {
+            time: 0,
+            work: [0; JobSet::MAX_JOBS],
+        }
+    }
+}

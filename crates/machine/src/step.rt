@@ -1,0 +1,164 @@
+// One tick on a state, by value, with its checks.
+ghost use mathlib.Core.Path.{_≡_};
+ghost use mathlib.Core.List.{[]};
+ghost use Prim.Native.Nat.{_<_, _≤_};
+ghost use lib.ListN.{length};
+ghost use Rattle.jobs.specs.Limits.{maxJobs};
+ghost use Rattle.jobs.specs.Jobs.{jobsOf};
+ghost use Rattle.theory.specs.Releases.{tableOf};
+ghost use Rattle.machine.specs.Every.{everyBelow};
+ghost use Rattle.machine.specs.Steps.{possible, stateCheck, stepOf};
+ghost use Rattle.machine.specs.Ticks.{tickOf};
+ghost use Rattle.machine.specs.Private.{seen, stateOf, Prepared};
+use crate::columns::Columns;
+use crate::columns::columns_of;
+use crate::pick::best_of;
+use crate::ready::are_complete;
+use crate::ready::is_predecessor_complete;
+use crate::state::State;
+use crate::times::check_times;
+use jobs::refusal::Check;
+use jobs::refusal::Refusal;
+use jobs::set::JobSet;
+
+// What a tick answers: the chain and job that ran, idle, finished before it, or refused.
+pub enum Ticked {
+    Ran { chain: u64, job: u64 },
+    Idle,
+    Finished,
+    Refused(Refusal),
+}
+
+// The answer, and the state after the tick.
+pub struct Stepped {
+    pub ticked: Ticked,
+    pub state: State,
+}
+
+// Whether the work of one job is possible at this time.
+fn is_possible<'a, 'b>(
+    at: usize,
+    chain: &'a [u64; JobSet::MAX_JOBS],
+    release: &'a [u64; JobSet::MAX_JOBS],
+    times: &'a [u64],
+    work: &'b [u64; JobSet::MAX_JOBS],
+    time: u64,
+) -> bool
+    requires { ⌜ (at < maxJobs) × (at < length (now times)) ⌝ }
+    ensures { λ r. ⌜ r ≡ possible (seen (now (chain .entry)) [] (now (release .entry))) (now (times .entry)) (stateOf time (now (work .entry))) at ⌝ }
+{
+    if times[at] < work[at] {
+        return false;
+    }
+    if work[at] == 0 {
+        return true;
+    }
+    if !is_predecessor_complete(at, chain, times, work) {
+        return false;
+    }
+    release[at] < time
+}
+
+// Whether the work of the first count jobs is.
+fn are_possible<'a, 'b>(
+    count: usize,
+    chain: &'a [u64; JobSet::MAX_JOBS],
+    release: &'a [u64; JobSet::MAX_JOBS],
+    times: &'a [u64],
+    work: &'b [u64; JobSet::MAX_JOBS],
+    time: u64,
+) -> bool
+    requires { ⌜ (count ≤ maxJobs) × (count ≤ length (now times)) ⌝ }
+    ensures { λ r. ⌜ r ≡ everyBelow count (possible (seen (now (chain .entry)) [] (now (release .entry))) (now (times .entry)) (stateOf time (now (work .entry)))) ⌝ }
+{
+    let mut n: usize = 0;
+    while n < count {
+        if !is_possible(n, chain, release, times, work, time) {
+            return false;
+        }
+        n += 1;
+    }
+    true
+}
+
+// Refusal 11.
+fn check_state(state: State, set: JobSet, columns: Columns, times: &[u64]) -> Check
+    requires { ⌜ Prepared (jobsOf set) columns (now times) ⌝ }
+    ensures { λ r. ⌜ r ≡ stateCheck (tableOf (jobsOf set)) (now (times .entry)) state ⌝ }
+{
+    let chain = columns.chain;
+    let release = columns.release;
+    let work = state.work;
+    if State::MAX_TIME < state.time {
+        return Check::Refused(Refusal::ImpossibleState);
+    }
+    if !are_possible(set.count, &chain, &release, times, &work, state.time) {
+        return Check::Refused(Refusal::ImpossibleState);
+    }
+    Check::Passed
+}
+
+// The tick itself, on a state that has passed.
+fn advance(state: State, set: JobSet, columns: Columns, times: &[u64]) -> Stepped
+    requires { ⌜ Prepared (jobsOf set) columns (now times) × (stateCheck (tableOf (jobsOf set)) (now times) state ≡ Check.Passed) ⌝ }
+    ensures { λ r. ⌜ r ≡ tickOf (jobsOf set) (now (times .entry)) state ⌝ }
+{
+    let chain = columns.chain;
+    let priority = columns.priority;
+    let release = columns.release;
+    let work = state.work;
+    let best = best_of(
+        set.count,
+        &chain,
+        &priority,
+        &release,
+        times,
+        &work,
+        state.time,
+    );
+    if best.found {
+        let at = best.at;
+        let mut next = state;
+        next.time = state.time + 1;
+        next.work[at] = work[at] + 1;
+        return Stepped {
+            ticked: Ticked::Ran {
+                chain: set.jobs[at].chain,
+                job: set.jobs[at].job,
+            },
+            state: next,
+        };
+    }
+    if are_complete(set.count, times, &work) {
+        return Stepped {
+            ticked: Ticked::Finished,
+            state,
+        };
+    }
+    let mut next = state;
+    next.time = state.time + 1;
+    Stepped {
+        ticked: Ticked::Idle,
+        state: next,
+    }
+}
+
+// One tick: refusals 4 to 7, 8 and 11, then finished; on all of these the state is as before.
+pub fn step(state: State, set: JobSet, times: &[u64]) -> Stepped
+    ensures { λ r. ⌜ r ≡ stepOf (jobsOf set) (now (times .entry)) state ⌝ }
+{
+    if let Check::Refused(refusal) = check_times(set, times) {
+        return Stepped {
+            ticked: Ticked::Refused(refusal),
+            state,
+        };
+    }
+    let columns = columns_of(set);
+    if let Check::Refused(refusal) = check_state(state, set, columns, times) {
+        return Stepped {
+            ticked: Ticked::Refused(refusal),
+            state,
+        };
+    }
+    advance(state, set, columns, times)
+}

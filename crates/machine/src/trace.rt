@@ -1,0 +1,116 @@
+// The trace of the run from time 0, into a lent buffer.
+ghost use mathlib.Core.Path.{_≡_};
+ghost use Prim.Native.Nat.{_*_, _<_, _≤_};
+ghost use lib.ListN.{length};
+ghost use Rattle.laws.specs.Buffers.{patched};
+ghost use Rattle.jobs.specs.Limits.{maxJobs};
+ghost use Rattle.jobs.specs.Jobs.{jobsOf};
+ghost use Rattle.machine.specs.States.{maxTime};
+ghost use Rattle.machine.specs.Times.{machineCheck};
+ghost use Rattle.machine.specs.Traces.{rows, traced, traceOf, tracedIn};
+ghost use Rattle.machine.specs.Private.{putAt};
+use crate::columns::columns_of;
+use crate::pick::best_of;
+use crate::times::check_times;
+use crate::times::total;
+use jobs::refusal::Check;
+use jobs::refusal::Refusal;
+use jobs::set::JobSet;
+
+// A run of the job at a place of the table.
+pub struct Span {
+    pub at: usize,
+    pub from: u64,
+    pub to: u64,
+}
+
+// How many entries a trace has.
+pub enum Traced {
+    Entries(usize),
+    Refused(Refusal),
+}
+
+// Where a tick goes in a trace: the entry that it is part of, as it then is, and how many there then are.
+pub struct Put {
+    pub entry: usize,
+    pub entries: usize,
+    pub span: Span,
+}
+
+// The job at a place ran in a tick: the last entry goes on, or a new one begins.
+fn put_at(last: Span, entries: usize, at: usize, time: u64) -> Put
+    requires { ⌜ (entries ≤ 2 * maxJobs) × (time < maxTime) ⌝ }
+    ensures { λ r. ⌜ r ≡ putAt last entries at time ⌝ }
+{
+    let to = time + 1;
+    if 0 < entries {
+        if (last.at == at) & (last.to == time) {
+            return Put {
+                entry: entries - 1,
+                entries,
+                span: Span {
+                    at,
+                    from: last.from,
+                    to,
+                },
+            };
+        }
+    }
+    Put {
+        entry: entries,
+        entries: entries + 1,
+        span: Span { at, from: time, to },
+    }
+}
+
+// The entries of a set and running times that have passed, into a buffer with room for them; the answer is their number.
+fn write_entries(set: JobSet, times: &[u64], out: &mut [u64]) -> usize
+    requires { ⌜ (machineCheck (jobsOf set) (now times) ≡ Check.Passed) × (8 * set .count ≤ length (now out)) ⌝ }
+    ensures { λ r. ⌜ (r ≡ length (traced (jobsOf set) (now (times .entry)))) × (now (out .exit) ≡ patched (now (out .entry)) 0 (rows (jobsOf set) (traced (jobsOf set) (now (times .entry))))) ⌝ }
+{
+    let columns = columns_of(set);
+    let chain = columns.chain;
+    let priority = columns.priority;
+    let release = columns.release;
+    let mut work = [0u64; JobSet::MAX_JOBS];
+    let mut left = total(times);
+    let mut last = Span {
+        at: 0,
+        from: 0,
+        to: 0,
+    };
+    let mut entries: usize = 0;
+    let mut time: u64 = 0;
+    while 0 < left {
+        let best = best_of(set.count, &chain, &priority, &release, times, &work, time);
+        if best.found {
+            let at = best.at;
+            let put = put_at(last, entries, at, time);
+            last = put.span;
+            entries = put.entries;
+            let k = 4 * put.entry;
+            out[k] = set.jobs[at].chain;
+            out[k + 1] = set.jobs[at].job;
+            out[k + 2] = last.from;
+            out[k + 3] = last.to;
+            work[at] = work[at] + 1;
+            left -= 1;
+        }
+        time += 1;
+    }
+    entries
+}
+
+// Refusals 4 to 7, then 8, then 9, then the entries of the run from time 0, four numbers each.
+pub fn trace(set: JobSet, times: &[u64], out: &mut [u64]) -> Traced
+    ensures { λ r. ⌜ (r ≡ traceOf (jobsOf set) (now (times .entry)) (length (now (out .entry)))) × (now (out .exit) ≡ tracedIn (jobsOf set) (now (times .entry)) (now (out .entry))) ⌝ }
+{
+    if let Check::Refused(refusal) = check_times(set, times) {
+        return Traced::Refused(refusal);
+    }
+    if out.len() < 8 * set.count {
+        return Traced::Refused(Refusal::ShortBuffer);
+    }
+    let entries = write_entries(set, times, out);
+    Traced::Entries(entries)
+}
