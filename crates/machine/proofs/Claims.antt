@@ -24,7 +24,7 @@ use Rattle.theory.proofs.Claims.{demand-3}
 use Rattle.machine.specs.declared.state.State.{State}
 use Rattle.machine.specs.declared.step.Ticked.{Ticked}
 use Rattle.machine.specs.declared.step.Ticked.the-variants.{Finished}
-use Rattle.machine.specs.States.{maxTime}
+use Rattle.machine.specs.States.{lastTime}
 use Rattle.machine.specs.Times.{machineCheck}
 use Rattle.machine.specs.Ready.{complete}
 use Rattle.machine.specs.Pick.{pick}
@@ -58,9 +58,9 @@ pub run-ends : EveryMachine Ends
 run-ends js times passed =
     let t = tableOf js in
     let limit = work-limit js times passed in
-    let all : allComplete times (finishWork js times) (length js) ≡ true = going-ends t times lastRelease (few-jobs js times passed) (released-by js times passed) maxTime (omega (arith, limit)) in
+    let all : allComplete times (finishWork js times) (length js) ≡ true = going-ends t times lastRelease (few-jobs js times passed) (released-by js times passed) lastTime (omega (arith, limit)) in
     record {
-      early = omega (arith, goes js times passed maxTime .early, all-sum times (finishWork js times) (length js) all, limit);
+      early = omega (arith, goes js times passed lastTime .early, all-sum times (finishWork js times) (length js) all, limit);
       done = all-done js times (finish (tableOf js) times) all;
     }
 
@@ -119,12 +119,12 @@ module _ (js : List Job) (times : List ℕ) (passed : machineCheck js times ≡ 
 pub machine-keeps-bounds : EveryMachine KeepsBounds
 unfolding completions
 machine-keeps-bounds js times passed u l =
-    let e : getD (tabulate 0 maxJobs (λ k. completion (tableOf js) times k maxTime)) u 0 ≡ completion (tableOf js) times u maxTime
-    = getD-tabulate 0 maxJobs (λ k. completion (tableOf js) times k maxTime) 0 u (omega (arith, few-jobs js times passed)) ∙ ap (λ (k : ℕ). completion (tableOf js) times k maxTime) (zero-add u) in
-    rw e (completion-bound js times passed u l maxTime)
+    let e : getD (tabulate 0 maxJobs (λ k. completion (tableOf js) times k lastTime)) u 0 ≡ completion (tableOf js) times u lastTime
+    = getD-tabulate 0 maxJobs (λ k. completion (tableOf js) times k lastTime) 0 u (omega (arith, few-jobs js times passed)) ∙ ap (λ (k : ℕ). completion (tableOf js) times k lastTime) (zero-add u) in
+    rw e (completion-bound js times passed u l lastTime)
 
 pub trace-gives-back : EveryMachine GivesBack
-trace-gives-back js times passed n l = spans-give-back (tableOf js) times maxTime n l
+trace-gives-back js times passed n l = spans-give-back (tableOf js) times lastTime n l
 
 pub trace-within-twice : EveryMachine WithinTwice
-trace-within-twice js times passed = spans-within-twice (tableOf js) times lastRelease (few-jobs js times passed) (released-by js times passed) maxTime
+trace-within-twice js times passed = spans-within-twice (tableOf js) times lastRelease (few-jobs js times passed) (released-by js times passed) lastTime

@@ -20,10 +20,9 @@ use Rattle.jobs.specs.declared.job.Job.{Job}
 use Rattle.jobs.specs.declared.set.JobSet.{JobSet}
 use Rattle.jobs.specs.declared.refusal.Refusal.{Refusal}
 use Rattle.jobs.specs.declared.refusal.Check.the-variants.{Passed, Refused}
-use Rattle.jobs.specs.Limits.{maxJobs, maxRelease}
+use Rattle.jobs.specs.Limits.{maxJobs, maxRelease, maxTime}
 use Rattle.jobs.specs.Jobs.{jobsOf}
 use Rattle.jobs.proofs.Sets.{length-jobs}
-use Rattle.jobs.specs.Limits as Limits
 use Rattle.theory.specs.Table.{Table}
 use Rattle.theory.specs.Releases.{tableOf}
 use Rattle.theory.specs.Runs.{Entry, idle, runs, names}
@@ -32,7 +31,7 @@ use Rattle.theory.proofs.AcceptedSets.{accepted-latest}
 use Rattle.machine.specs.declared.columns.Columns.{Columns}
 use Rattle.machine.specs.declared.pick.Best.{Best}
 use Rattle.machine.specs.declared.run.Completed.{Completed}
-use Rattle.machine.specs.States.{maxTime}
+use Rattle.machine.specs.States.{lastTime}
 use Rattle.machine.specs.Times.{machineCheck}
 use Rattle.machine.specs.Pick.{pickUpTo, pick}
 use Rattle.machine.specs.Ticks.{allComplete, moved}
@@ -66,7 +65,7 @@ module _ (t : Table) (times : List ℕ) where
 
 -- ---- an accepted set and its running times
 abbrev pub lastRelease : ℕ
-lastRelease = maxRelease + maxJobs * Limits.maxTime
+lastRelease = maxRelease + maxJobs * maxTime
 
 nothing-done : (n : ℕ) → _≡_ {A = ℕ} (sumOf (replicate maxJobs 0) n) 0
 unfolding sumOf
@@ -94,7 +93,7 @@ module _ (js : List Job) (times : List ℕ) (passed : machineCheck js times ≡ 
   pub goes : (n : ℕ) → Going t times lastRelease few-jobs released-by n (after t times n)
   goes = going t times lastRelease few-jobs released-by
 
-  pub work-limit : sumOf times (length js) ≤ maxJobs * Limits.maxTime
+  pub work-limit : sumOf times (length js) ≤ maxJobs * maxTime
   work-limit = omega (arith, sum-limit times (times-brief js times passed) (length js) (omega (arith, times-each js times passed)), few-jobs)
 
   pub reached-start : (left : ℕ) → left ≡ sumOf times (length times) → Reached js times (replicate maxJobs 0) left 0
@@ -128,7 +127,7 @@ module _ (js : List Job) (times : List ℕ) (passed : machineCheck js times ≡ 
           (λ h. absurd (omega (arith, all-sum times work (length js) h, r .rest)))
           (λ h. h)
 
-      pub reached-early : time < maxTime
+      pub reached-early : time < lastTime
       reached-early = omega (arith, r .early, r .rest, work-limit)
 
       next-here : (e : Entry) → pick t times (stateOf time work) ≡ e → after t times (time + 1) ≡ moved e (stateOf time work)
@@ -156,13 +155,13 @@ module _ (js : List Job) (times : List ℕ) (passed : machineCheck js times ≡ 
       pub reached-settled : allComplete times (after t times time .work) (length js) ≡ true
       reached-settled = rw (r .here) reached-all
 
-      pub reached-limit : time ≤ maxTime
+      pub reached-limit : time ≤ lastTime
       reached-limit = omega (arith, r .early, r .rest, work-limit)
 
       pub reached-finish : finish t times ≡ stateOf time work
       reached-finish =
-          let e : time + (maxTime - time) ≡ maxTime = omega (arith, reached-limit) in
-          subst (λ (n : ℕ). after t times n ≡ stateOf time work) e (after-settled t times time reached-settled (maxTime - time) ∙ r .here)
+          let e : time + (lastTime - time) ≡ lastTime = omega (arith, reached-limit) in
+          subst (λ (n : ℕ). after t times n ≡ stateOf time work) e (after-settled t times time reached-settled (lastTime - time) ∙ r .here)
 
   -- ---- completions
   pub noted-start : Noted js times (replicate maxJobs 0) 0
@@ -186,14 +185,14 @@ module _ (js : List Job) (times : List ℕ) (passed : machineCheck js times ≡ 
     pub noted-all : {work : List ℕ} {left : ℕ} → Reached js times work left time → left ≤ 0 → column ≡ completions t times
     unfolding completions
     noted-all {work} {left} r none =
-        let e : time + (maxTime - time) ≡ maxTime = omega (arith, reached-limit r none) in
-        ext-getD 0 column (tabulate 0 maxJobs (λ u. completion t times u maxTime)) (h .long ∙ sym (length-tabulate 0 maxJobs (λ u. completion t times u maxTime)))
+        let e : time + (lastTime - time) ≡ lastTime = omega (arith, reached-limit r none) in
+        ext-getD 0 column (tabulate 0 maxJobs (λ u. completion t times u lastTime)) (h .long ∙ sym (length-tabulate 0 maxJobs (λ u. completion t times u lastTime)))
         (λ u l.
         h .each u
-        ∙ sym (completion-settled t times u time (reached-settled r none) (maxTime - time))
+        ∙ sym (completion-settled t times u time (reached-settled r none) (lastTime - time))
         ∙ ap (completion t times u) e
-        ∙ ap (λ (k : ℕ). completion t times k maxTime) (sym (zero-add u))
-        ∙ sym (getD-tabulate 0 maxJobs (λ k. completion t times k maxTime) 0 u (omega (arith, h .long))))
+        ∙ ap (λ (k : ℕ). completion t times k lastTime) (sym (zero-add u))
+        ∙ sym (getD-tabulate 0 maxJobs (λ k. completion t times k lastTime) 0 u (omega (arith, h .long))))
 
   pub run-done : (end : ℕ) (work column : List ℕ) → finish t times ≡ stateOf end work → column ≡ completions t times
       → _≡_ {A = Completed} (record { check = Passed; completions = column; end = end }) (runOf js times)

@@ -26,7 +26,7 @@ use Rattle.machine.specs.declared.columns.Columns.{Columns}
 use Rattle.machine.specs.declared.pick.Best.{Best}
 use Rattle.machine.specs.declared.step.Ticked.the-variants.{Ran, Idle, Finished, Refused as RefusedTick}
 use Rattle.machine.specs.Every.{everyBelow}
-use Rattle.machine.specs.States.{maxTime}
+use Rattle.machine.specs.States.{lastTime}
 use Rattle.machine.specs.Times.{machineCheck}
 use Rattle.machine.specs.Ready.{complete, ready}
 use Rattle.machine.specs.Pick.{pickUpTo, pick}
@@ -118,37 +118,37 @@ module _ {t : Table} {columns : Columns} {n : ℕ} (h : Shown t columns n) (whol
   all-possible : everyBelow n (possible (seen (columns .chain) [] (columns .release)) times s) ≡ everyBelow (t .count) (possible t times s)
   all-possible = every-ext _ (possible t times s) n possible-alike ∙ ap (λ (k : ℕ). everyBelow k (possible t times s)) (sym whole)
 
-  pub state-late : maxTime < s .time → stateCheck t times s ≡ Refused ImpossibleState
+  pub state-late : lastTime < s .time → stateCheck t times s ≡ Refused ImpossibleState
   unfolding stateCheck
-  state-late l = rw (lt-leb (s .time) maxTime l)
+  state-late l = rw (lt-leb (s .time) lastTime l)
 
-  pub state-impossible : s .time ≤ maxTime → everyBelow n (possible (seen (columns .chain) [] (columns .release)) times s) ≡ false
+  pub state-impossible : s .time ≤ lastTime → everyBelow n (possible (seen (columns .chain) [] (columns .release)) times s) ≡ false
       → stateCheck t times s ≡ Refused ImpossibleState
   unfolding stateCheck
-  state-impossible l e = rw (le-leb (s .time) maxTime l, ← all-possible, e)
+  state-impossible l e = rw (le-leb (s .time) lastTime l, ← all-possible, e)
 
-  pub state-passes : s .time ≤ maxTime → everyBelow n (possible (seen (columns .chain) [] (columns .release)) times s) ≡ true
+  pub state-passes : s .time ≤ lastTime → everyBelow n (possible (seen (columns .chain) [] (columns .release)) times s) ≡ true
       → stateCheck t times s ≡ Passed
   unfolding stateCheck
-  state-passes l e = rw (le-leb (s .time) maxTime l, ← all-possible, e)
+  state-passes l e = rw (le-leb (s .time) lastTime l, ← all-possible, e)
 
 module _ (t : Table) (times : List ℕ) (s : State) (passed : stateCheck t times s ≡ Passed) where
-  both-passed : leb (s .time) maxTime && everyBelow (t .count) (possible t times s) ≡ true
+  both-passed : leb (s .time) lastTime && everyBelow (t .count) (possible t times s) ≡ true
   unfolding stateCheck
-  both-passed = by-fit (leb (s .time) maxTime && everyBelow (t .count) (possible t times s)) passed
+  both-passed = by-fit (leb (s .time) lastTime && everyBelow (t .count) (possible t times s)) passed
     where
       by-fit : (b : Bool) → unless b ImpossibleState Passed ≡ Passed → b ≡ true
       by-fit true e = refl
       by-fit false e = let z : _≡_ {A = ℕ} 0 1 = cc in absurd (omega arith)
 
-  pub passed-early : s .time ≤ maxTime
-  passed-early = leb-true _ _ (and-left (leb (s .time) maxTime) (everyBelow (t .count) (possible t times s)) both-passed)
+  pub passed-early : s .time ≤ lastTime
+  passed-early = leb-true _ _ (and-left (leb (s .time) lastTime) (everyBelow (t .count) (possible t times s)) both-passed)
 
   pub passed-within : (u : ℕ) → u < t .count → getD (s .work) u 0 ≤ getD times u 0
   unfolding possible
   passed-within u l =
       leb-true _ _ (and-left (leb (getD (s .work) u 0) (getD times u 0)) _
-      (every-at (possible t times s) (t .count) u l (and-right (leb (s .time) maxTime) (everyBelow (t .count) (possible t times s)) both-passed)))
+      (every-at (possible t times s) (t .count) u l (and-right (leb (s .time) lastTime) (everyBelow (t .count) (possible t times s)) both-passed)))
 
 -- ---- a tick on columns that were made from a set
 module _ (set : JobSet) (columns : Columns) (times : List ℕ) (p : Prepared (jobsOf set) columns times) where

@@ -28,7 +28,7 @@ use Rattle.theory.specs.Runs.{idle, runs}
 use Rattle.machine.specs.declared.trace.Span.{Span}
 use Rattle.machine.specs.declared.trace.Put.{Put}
 use Rattle.machine.specs.declared.trace.Traced.the-variants.{Entries, Refused as RefusedTrace}
-use Rattle.machine.specs.States.{maxTime}
+use Rattle.machine.specs.States.{lastTime}
 use Rattle.machine.specs.Times.{machineCheck}
 use Rattle.machine.specs.Ticks.{allComplete}
 use Rattle.machine.specs.Runs.{after, entry}
@@ -245,8 +245,8 @@ module _ (js : List Job) (times before : List ℕ) where
     module _ {work : List ℕ} {left : ℕ} (r : Reached js times work left time) (none : left ≤ 0) where
       whole : traced js times ≡ spans t times time
       whole =
-          let e : time + (maxTime - time) ≡ maxTime = omega (arith, reached-limit js times passed r none) in
-          subst (λ (n : ℕ). spans t times n ≡ spans t times time) e (spans-settled time (reached-settled js times passed r none) (maxTime - time))
+          let e : time + (lastTime - time) ≡ lastTime = omega (arith, reached-limit js times passed r none) in
+          subst (λ (n : ℕ). spans t times n ≡ spans t times time) e (spans-settled time (reached-settled js times passed r none) (lastTime - time))
 
       pub written-count : entries ≡ length (traced js times)
       written-count = w .count ∙ ap length (sym whole)
@@ -274,4 +274,4 @@ pub traced-length : (js : List Job) (times buffer : List ℕ) → machineCheck j
     → length (patched buffer 0 (rows js (traced js times))) ≡ length buffer
 traced-length js times buffer passed room =
     length-patched buffer 0 (rows js (traced js times))
-    (omega (arith, rows-length js (traced js times), spans-within-twice (tableOf js) times lastRelease (few-jobs js times passed) (released-by js times passed) maxTime))
+    (omega (arith, rows-length js (traced js times), spans-within-twice (tableOf js) times lastRelease (few-jobs js times passed) (released-by js times passed) lastTime))

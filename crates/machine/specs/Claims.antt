@@ -23,7 +23,7 @@ use Rattle.theory.specs.Runs.{Entry, idle, runs, Run}
 use Rattle.machine.specs.declared.state.State.{State}
 use Rattle.machine.specs.declared.step.Ticked.the-variants.{Finished}
 use Rattle.machine.specs.declared.trace.Span.{Span}
-use Rattle.machine.specs.States.{maxTime}
+use Rattle.machine.specs.States.{lastTime}
 use Rattle.machine.specs.Times.{machineCheck}
 use Rattle.machine.specs.Ticks.{tickOf}
 use Rattle.machine.specs.Runs.{entry, entries, finish, completions}
@@ -39,7 +39,7 @@ AllDone js times s = (u : ℕ) → u < length js → getD (s .work) u 0 ≡ getD
 
 -- `run-ends`: no budget is ever met.
 pub record Ends (js : List Job) (times : List ℕ) : Type 0 where
-  pub early : finish (tableOf js) times .time < maxTime
+  pub early : finish (tableOf js) times .time < lastTime
   pub done : AllDone js times (finish (tableOf js) times)
 
 -- `finished-when`: of any state.
@@ -64,7 +64,7 @@ spanEntry (s ∷ ss) n =
 
 -- `trace-gives-back`: tick for tick.
 abbrev pub GivesBack : List Job → List ℕ → Type 0
-GivesBack js times = (n : ℕ) → n < maxTime → spanEntry (traced js times) n ≡ entry (tableOf js) times n
+GivesBack js times = (n : ℕ) → n < lastTime → spanEntry (traced js times) n ≡ entry (tableOf js) times n
 
 -- `trace-within-twice`: whatever the running times.
 abbrev pub WithinTwice : List Job → List ℕ → Type 0

@@ -21,7 +21,7 @@ use Rattle.theory.specs.Releases.{tableOf}
 use Rattle.theory.specs.Runs.{Entry, names}
 use Rattle.machine.specs.declared.state.State.{State}
 use Rattle.machine.specs.declared.run.Completed.{Completed}
-use Rattle.machine.specs.States.{maxTime, start}
+use Rattle.machine.specs.States.{lastTime, start}
 use Rattle.machine.specs.Times.{machineCheck}
 use Rattle.machine.specs.Pick.{pick}
 use Rattle.machine.specs.Ticks.{next}
@@ -48,11 +48,11 @@ completion t times u (suc n) =
 
 -- No run from time 0 reaches the limit on times.
 abbrev pub finish : Table → List ℕ → State
-finish t times = after t times maxTime
+finish t times = after t times lastTime
 
 -- One for each place of a set.
 unfoldable pub completions : Table → List ℕ → List ℕ
-completions t times = tabulate 0 maxJobs (λ u. completion t times u maxTime)
+completions t times = tabulate 0 maxJobs (λ u. completion t times u lastTime)
 
 abbrev pub ranBy : Check → List ℕ → ℕ → Completed
 ranBy Passed times end = record { check = Passed; completions = times; end = end }

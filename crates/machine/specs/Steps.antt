@@ -20,7 +20,7 @@ use Rattle.machine.specs.declared.state.State.{State}
 use Rattle.machine.specs.declared.step.Ticked.the-variants.{Refused as RefusedTick}
 use Rattle.machine.specs.declared.step.Stepped.{Stepped}
 use Rattle.machine.specs.Every.{everyBelow}
-use Rattle.machine.specs.States.{maxTime}
+use Rattle.machine.specs.States.{lastTime}
 use Rattle.machine.specs.Times.{machineCheck}
 use Rattle.machine.specs.Ready.{predecessorComplete}
 use Rattle.machine.specs.Ticks.{tickOf}
@@ -33,7 +33,7 @@ possible t times s u =
 
 -- The time is not beyond its limit, and every job's work is possible.
 unfoldable pub stateCheck : Table → List ℕ → State → Check
-stateCheck t times s = unless (leb (s .time) maxTime && everyBelow (t .count) (possible t times s)) ImpossibleState Passed
+stateCheck t times s = unless (leb (s .time) lastTime && everyBelow (t .count) (possible t times s)) ImpossibleState Passed
 
 -- By number.
 unfoldable pub stepCheck : List Job → List ℕ → State → Check

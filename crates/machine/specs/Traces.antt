@@ -25,7 +25,7 @@ use Rattle.theory.specs.Runs.{Entry, idle, runs}
 use Rattle.machine.specs.declared.trace.Span.{Span}
 use Rattle.machine.specs.declared.trace.Traced.{Traced}
 use Rattle.machine.specs.declared.trace.Traced.the-variants.{Entries, Refused as RefusedTrace}
-use Rattle.machine.specs.States.{maxTime}
+use Rattle.machine.specs.States.{lastTime}
 use Rattle.machine.specs.Times.{machineCheck}
 use Rattle.machine.specs.Runs.{entry}
 
@@ -72,7 +72,7 @@ traceCheck js times room = andThen (machineCheck js times) (unless (roomFor js r
 
 -- The spans of the whole run.
 abbrev pub traced : List Job → List ℕ → List Span
-traced js times = spans (tableOf js) times maxTime
+traced js times = spans (tableOf js) times lastTime
 
 abbrev pub tracedBy : Check → ℕ → Traced
 tracedBy Passed n = Entries n

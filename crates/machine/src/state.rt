@@ -9,7 +9,7 @@ pub struct State {
 }
 
 impl State {
-    pub const MAX_TIME: u64 = 2000000000;
+    pub const LAST_TIME: u64 = 2000000000;
 
     pub fn start() -> State
         ensures { λ r. ⌜ r ≡ start ⌝ }

@@ -89,7 +89,7 @@ fn check_state(state: State, set: JobSet, columns: Columns, times: &[u64]) -> Ch
     let chain = columns.chain;
     let release = columns.release;
     let work = state.work;
-    if State::MAX_TIME < state.time {
+    if State::LAST_TIME < state.time {
         return Check::Refused(Refusal::ImpossibleState);
     }
     if !are_possible(set.count, &chain, &release, times, &work, state.time) {

@@ -5,7 +5,7 @@ ghost use lib.ListN.{length};
 ghost use Rattle.laws.specs.Buffers.{patched};
 ghost use Rattle.jobs.specs.Limits.{maxJobs};
 ghost use Rattle.jobs.specs.Jobs.{jobsOf};
-ghost use Rattle.machine.specs.States.{maxTime};
+ghost use Rattle.machine.specs.States.{lastTime};
 ghost use Rattle.machine.specs.Times.{machineCheck};
 ghost use Rattle.machine.specs.Traces.{rows, traced, traceOf, tracedIn};
 ghost use Rattle.machine.specs.Private.{putAt};
@@ -39,7 +39,7 @@ pub struct Put {
 
 // The job at a place ran in a tick: the last entry goes on, or a new one begins.
 fn put_at(last: Span, entries: usize, at: usize, time: u64) -> Put
-    requires { ⌜ (entries ≤ 2 * maxJobs) × (time < maxTime) ⌝ }
+    requires { ⌜ (entries ≤ 2 * maxJobs) × (time < lastTime) ⌝ }
     ensures { λ r. ⌜ r ≡ putAt last entries at time ⌝ }
 {
     let to = time + 1;

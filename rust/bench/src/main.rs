@@ -24,6 +24,14 @@ fn table_text(jobs: &[Job]) -> Vec<u8> {
     out.into_bytes()
 }
 
+/// How many (pair, job) steps the three bounds take: one scan over all jobs for each job by ERT, and one for each pair of a chain by CJA and
+/// by each round of ITR.
+fn steps(jobs: u64, chains: u64, rounds: u64) -> u64 {
+    let per = jobs / chains;
+    let pairs = chains * per * (per + 1) / 2;
+    jobs * jobs + (rounds + 1) * pairs * jobs
+}
+
 /// The least time of a call over several batches, in nanoseconds.
 fn time(mut call: impl FnMut()) -> f64 {
     let start = Instant::now();
@@ -41,31 +49,33 @@ fn time(mut call: impl FnMut()) -> f64 {
     best
 }
 
-fn row(what: &str, jobs: u64, chains: u64, part: f64, plain: f64) {
-    println!("{what:8} {jobs:3} jobs {chains:2} chains   part {part:12.0} ns   plain {plain:12.0} ns   ratio {:5.2}", part / plain);
-}
-
 fn main() {
     let mut buffer = vec![0u8; 16_384];
+    println!("{:>4} {:>6} {:>6}   {:>21}   {:>21}   {:>21}", "jobs", "chains", "rounds", "reading ns, ratio", "bounds ns, ratio", "ns a step of the bounds");
     for chains in [2, 8] {
         for jobs in [8, 16, 32, 64] {
             let set = load(jobs, chains);
             let table = table_text(&set);
-            let part = time(|| {
-                black_box(cudlomer::bounds(black_box(&table), &mut buffer).unwrap());
-            });
-            let plain = time(|| {
-                black_box(text::bounds_text(&table::read(black_box(&table)).unwrap()));
-            });
-            row("bounds", jobs, chains, part, plain);
+            let rounds = cudlomer::rounds(&table).unwrap();
             // An algorithm that there is not is refused once the table is read.
-            let part = time(|| {
+            let read = time(|| {
                 black_box(cudlomer::verdict(black_box(&table), 9).unwrap_err());
             });
-            let plain = time(|| {
+            let plain_read = time(|| {
                 black_box(table::read(black_box(&table)).unwrap());
             });
-            row("read", jobs, chains, part, plain);
+            let whole = time(|| {
+                black_box(cudlomer::bounds(black_box(&table), &mut buffer).unwrap());
+            });
+            let plain_whole = time(|| {
+                black_box(text::bounds_text(&table::read(black_box(&table)).unwrap()));
+            });
+            println!(
+                "{jobs:4} {chains:6} {rounds:6}   {read:14.0} {:6.2}   {whole:14.0} {:6.2}   {:21.2}",
+                read / plain_read,
+                whole / plain_whole,
+                (whole - read) / steps(jobs, chains, rounds) as f64
+            );
         }
     }
 }

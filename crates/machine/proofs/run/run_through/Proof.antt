@@ -9,7 +9,7 @@ use borrow.Author.Needs.{needs}
 use denote.Ref.{now}
 use Rattle.jobs.specs.Limits.{maxJobs}
 use Rattle.jobs.specs.Jobs.{jobsOf}
-use Rattle.machine.specs.States.{maxTime}
+use Rattle.machine.specs.States.{lastTime}
 use Rattle.machine.specs.Private.{Prepared}
 use Rattle.machine.proofs.RunningTimes.{set-accepted, times-brief}
 use Rattle.machine.proofs.Ticking.{prepared-of, prepared-few, prepared-times}
@@ -21,7 +21,7 @@ abbrev Inv-loop : tie.InvT-loop
 Inv-loop set times chain priority release work₀ completions₀ left₀ time₀ work completions left time = Reached (jobsOf set) times work left time × Noted (jobsOf set) times completions time
 
 abbrev μ-loop : tie.MeasureT-loop
-μ-loop set times chain priority release work₀ completions₀ left₀ time₀ work completions left time = maxTime - time
+μ-loop set times chain priority release work₀ completions₀ left₀ time₀ work completions left time = lastTime - time
 
 prepared : (c : tie.After-columns-of Inv-loop μ-loop) → Prepared (jobsOf (c .before .before .args .set)) (c .columns-of .result) (now (c .before .before .args .times))
 prepared c = prepared-of _ _ _ (c .before .before .pre) (c .columns-of .ensures)

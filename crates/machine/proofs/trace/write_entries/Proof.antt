@@ -14,7 +14,7 @@ use Rattle.jobs.specs.declared.job.Job.{Job}
 use Rattle.theory.specs.Releases.{tableOf}
 use Rattle.theory.specs.Runs.{runs}
 use Rattle.machine.specs.declared.trace.Put.{Put}
-use Rattle.machine.specs.States.{maxTime}
+use Rattle.machine.specs.States.{lastTime}
 use Rattle.machine.specs.Runs.{entry}
 use Rattle.machine.specs.Private.{Prepared, putAt}
 use Rattle.machine.proofs.RunningTimes.{set-accepted, times-brief}
@@ -28,7 +28,7 @@ abbrev Inv-loop : tie.InvT-loop
 Inv-loop times out₀ set chain priority release work₀ left₀ last₀ entries₀ time₀ out work left last entries time = Reached (jobsOf set) times work left time × Written (jobsOf set) times out₀ out last entries time
 
 abbrev μ-loop : tie.MeasureT-loop
-μ-loop times out₀ set chain priority release work₀ left₀ last₀ entries₀ time₀ out work left last entries time = maxTime - time
+μ-loop times out₀ set chain priority release work₀ left₀ last₀ entries₀ time₀ out work left last entries time = lastTime - time
 
 prepared : (c : tie.After-columns-of Inv-loop μ-loop) → Prepared (jobsOf (c .before .before .before .args .t1)) (c .columns-of .result) (now (c .before .before .before .args .times))
 prepared c = prepared-of _ _ _ (c .before .before .before .pre .0) (c .columns-of .ensures)
