@@ -12,9 +12,9 @@ use native.Mathlib.Numerals.{add-one}
 use lib.Dec.{eqb}
 use lib.ListN.{getD}
 use lib.Seq.{ext-getD}
-use borrow.Author.Tests.{eqb-true, eq-eqb}
+use borrow.Author.Tests.{eq-eqb}
 use Rattle.laws.specs.Places.{padded}
-use Rattle.laws.proofs.Tests.{by-last, by-order, both-ways, never-true, and-left, and-right, and-both}
+use Rattle.laws.proofs.Tests.{by-last, by-order, both-ways, never-true, and-both}
 use Rattle.laws.proofs.Lists.{getD-padded}
 use Rattle.jobs.specs.Limits.{maxJobs}
 use Rattle.jobs.specs.declared.refusal.Check.the-variants.{Passed}
@@ -23,7 +23,7 @@ use Rattle.theory.specs.Bounds.{boundAt, cjaWith}
 use Rattle.theory.specs.Rounds.{overlap, round, after, sameBounds, Answer, roundLimit, itr}
 use Rattle.theory.specs.Claims.{Repeats, Settled}
 use Rattle.theory.proofs.Rules.{length-after}
-use Rattle.theory.proofs.Settling.{itr-settled, rounds-limit, settled-unique}
+use Rattle.theory.proofs.Settling.{itr-settled, rounds-limit, settled-unique, same-at, same-refl}
 use Rattle.analysis.specs.declared.answer.Itr.{Itr}
 use Rattle.analysis.specs.Analysis.{itrWith}
 use Rattle.analysis.specs.Kernel.{Fit}
@@ -38,14 +38,6 @@ limit-small t few =
     omega arith
 
 -- ---- the same bounds
-same-at : (n : ℕ) (a b : List ℕ) → sameBounds n a b ≡ true → (i : ℕ) → i < n → boundAt a i ≡ boundAt b i
-unfolding sameBounds
-same-at zero a b e i l = absurd (omega arith)
-same-at (suc n) a b e i l =
-    by-last i n l
-    (λ q. rw q (eqb-true (boundAt a n) (boundAt b n) (and-right (sameBounds n a b) (eqb (boundAt a n) (boundAt b n)) e)))
-    (λ il. same-at n a b (and-left (sameBounds n a b) (eqb (boundAt a n) (boundAt b n)) e) i il)
-
 pub same-none : (a b : List ℕ) → sameBounds 0 a b ≡ true
 unfolding sameBounds
 same-none a b = refl
@@ -56,10 +48,6 @@ same-more n a b e q = rw add-one (and-both (sameBounds n a b) (eqb (boundAt a n)
 
 pub same-not : (n : ℕ) (a b : List ℕ) (i : ℕ) → i < n → boundAt a i ≢ boundAt b i → sameBounds n a b ≡ false
 same-not n a b i l ne = never-true (sameBounds n a b) (λ e. ne (same-at n a b e i l))
-
-same-self : (n : ℕ) (a : List ℕ) → sameBounds n a a ≡ true
-same-self zero a = same-none a a
-same-self (suc n) a = rw add-one at (same-more n a a (same-self n a) refl)
 
 -- ---- a round reads bounds as they are padded
 pub round-padded : (t : Table) (b : List ℕ) → round t (padded maxJobs 0 b) ≡ round t b
@@ -104,7 +92,7 @@ module _ (t : Table) where
       moves : sameBounds (t .count) next bounds ≡ false → Repeats t (suc n) → ⊥
       moves s r =
           both-ways
-          (subst (λ (b : List ℕ). sameBounds (t .count) next b ≡ true) (next-is ∙ ap (padded maxJobs 0) r ∙ sym (h .bounds-are)) (same-self (t .count) next))
+          (subst (λ (b : List ℕ). sameBounds (t .count) next b ≡ true) (next-is ∙ ap (padded maxJobs 0) r ∙ sym (h .bounds-are)) (same-refl (t .count) next))
           s
 
       pub rounding-next : sameBounds (t .count) next bounds ≡ false → Rounding t next (n + 1)

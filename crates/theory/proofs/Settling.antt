@@ -21,7 +21,7 @@ use Rattle.theory.proofs.Rules.{length-after}
 use Rattle.theory.proofs.Monotone.{Fewer, pairs-mono, overlap-mono, round-le-cja, rounds-grow}
 
 -- ---- the same bounds
-same-at : (n : ℕ) (a b : List ℕ) → sameBounds n a b ≡ true → (i : ℕ) → i < n → boundAt a i ≡ boundAt b i
+pub same-at : (n : ℕ) (a b : List ℕ) → sameBounds n a b ≡ true → (i : ℕ) → i < n → boundAt a i ≡ boundAt b i
 unfolding sameBounds
 same-at zero a b e i l = absurd (omega arith)
 same-at (suc n) a b e i l =
@@ -29,7 +29,7 @@ same-at (suc n) a b e i l =
     (λ q. rw q (eqb-true (boundAt a n) (boundAt b n) (and-right (sameBounds n a b) (eqb (boundAt a n) (boundAt b n)) e)))
     (λ il. same-at n a b (and-left (sameBounds n a b) (eqb (boundAt a n) (boundAt b n)) e) i il)
 
-same-refl : (n : ℕ) (a : List ℕ) → sameBounds n a a ≡ true
+pub same-refl : (n : ℕ) (a : List ℕ) → sameBounds n a a ≡ true
 unfolding sameBounds
 same-refl zero a = refl
 same-refl (suc n) a = and-both (sameBounds n a a) (eqb (boundAt a n) (boundAt a n)) (same-refl n a) (eq-eqb (boundAt a n) (boundAt a n) refl)
