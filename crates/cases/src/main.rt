@@ -1,6 +1,7 @@
 // Prints one line for each case named as an argument: its name, and what the part makes of the tables kept under it.
 //   reading/NAME     what reading the file comes to
 //   bounds/NAME      rounds, verdicts by algorithm 1 to 4, and the bounds and slack of the last jobs
+//   trace/NAME       the entries of the run with all most times, and its end
 //   admission/NAME   what the chain of the next argument, with/NAME, comes to that asks to join, by algorithm 1 to 4
 ghost use Prim.Native.Nat.{_+_, _<_, _^_};
 
@@ -8,11 +9,13 @@ mod admission;
 mod bounds;
 mod print;
 mod tables;
+mod traces;
 
 use crate::admission::print_admission;
 use crate::bounds::print_bounds;
 use crate::print::print;
 use crate::tables::print_reading;
+use crate::traces::print_trace;
 
 // The first letter of the name tells what is asked.
 fn print_case(name: &[u8], next: &[u8]) {
@@ -30,6 +33,9 @@ fn print_case(name: &[u8], next: &[u8]) {
     }
     if kind == b'b' {
         print_bounds(name);
+    }
+    if kind == b't' {
+        print_trace(name);
     }
     if kind == b'a' {
         print_admission(name, next);

@@ -11,7 +11,7 @@ pub fn print_number(value: u64) {
     io::print_decimal(STDOUT_FILENO, value);
 }
 
-fn print_column(value: u64) {
+pub fn print_column(value: u64) {
     print(b",");
     print_number(value);
 }
