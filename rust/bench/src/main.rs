@@ -32,14 +32,14 @@ fn steps(jobs: u64, chains: u64, rounds: u64) -> u64 {
     jobs * jobs + (rounds + 1) * pairs * jobs
 }
 
-/// The least time of a call over several batches, in nanoseconds.
+/// The least time of a call over many short batches, in nanoseconds.
 fn time(mut call: impl FnMut()) -> f64 {
     let start = Instant::now();
     call();
     let once = start.elapsed().as_nanos().max(1) as u64;
-    let calls = (20_000_000 / once).clamp(1, 100_000);
+    let calls = (1_000_000 / once).clamp(1, 10_000);
     let mut best = f64::MAX;
-    for _ in 0..5 {
+    for _ in 0..100 {
         let start = Instant::now();
         for _ in 0..calls {
             call();
@@ -51,7 +51,7 @@ fn time(mut call: impl FnMut()) -> f64 {
 
 fn main() {
     let mut buffer = vec![0u8; 16_384];
-    println!("{:>4} {:>6} {:>6}   {:>21}   {:>21}   {:>21}", "jobs", "chains", "rounds", "reading ns, ratio", "bounds ns, ratio", "ns a step of the bounds");
+    println!("  ns: reading, ratio | ERT, CJA, ITR, and a step of all three | reading, bounds and text together, ratio");
     for chains in [2, 8] {
         for jobs in [8, 16, 32, 64] {
             let set = load(jobs, chains);
@@ -64,18 +64,22 @@ fn main() {
             let plain_read = time(|| {
                 black_box(table::read(black_box(&table)).unwrap());
             });
+            // A verdict works out the bounds of its algorithm alone.
+            let [ert, cja, itr] = [1, 2, 3].map(|algorithm| {
+                let verdict = time(|| {
+                    black_box(cudlomer::verdict(black_box(&table), algorithm).unwrap());
+                });
+                verdict - read
+            });
+            let step = (ert + cja + itr) / steps(jobs, chains, rounds) as f64;
             let whole = time(|| {
                 black_box(cudlomer::bounds(black_box(&table), &mut buffer).unwrap());
             });
             let plain_whole = time(|| {
                 black_box(text::bounds_text(&table::read(black_box(&table)).unwrap()));
             });
-            println!(
-                "{jobs:4} {chains:6} {rounds:6}   {read:14.0} {:6.2}   {whole:14.0} {:6.2}   {:21.2}",
-                read / plain_read,
-                whole / plain_whole,
-                (whole - read) / steps(jobs, chains, rounds) as f64
-            );
+            print!("{jobs:2} jobs, {chains} chains, {rounds} rounds: {read:6.0} {:5.2} | ", read / plain_read);
+            println!("{ert:6.0} {cja:7.0} {itr:8.0} {step:5.2} | {whole:8.0} {:5.2}", whole / plain_whole);
         }
     }
 }
