@@ -17,7 +17,7 @@ fn print_admitted(old: JobSet, new: JobSet, algorithm: u8) {
 }
 
 // The chain of one file asks to join the set of another.
-pub fn print_admission(old_name: &[u8], new_name: &[u8]) {
+pub(crate) fn print_admission(old_name: &[u8], new_name: &[u8]) {
     let old = set_of(old_name);
     let new = set_of(new_name);
     print_admitted(old, new, 1);

@@ -11,7 +11,7 @@ use analysis::verdict::verdict;
 use jobs::refusal::Check;
 use jobs::set::JobSet;
 
-pub fn print_verdict(verdict: Verdict) {
+pub(crate) fn print_verdict(verdict: Verdict) {
     print(b" ");
     match verdict {
         Verdict::Yes => print(b"yes"),
@@ -54,7 +54,7 @@ fn print_last(figures: Figures, count: usize) {
     }
 }
 
-pub fn print_bounds(name: &[u8]) {
+pub(crate) fn print_bounds(name: &[u8]) {
     let set = set_of(name);
     let all = figures(set);
     let check = all.check;

@@ -3,15 +3,15 @@ use jobs::job::Job;
 use jobs::refusal::Refusal;
 use libc::STDOUT_FILENO;
 
-pub fn print(text: &[u8]) {
+pub(crate) fn print(text: &[u8]) {
     io::write_all(STDOUT_FILENO, text);
 }
 
-pub fn print_number(value: u64) {
+pub(crate) fn print_number(value: u64) {
     io::print_decimal(STDOUT_FILENO, value);
 }
 
-pub fn print_column(value: u64) {
+pub(crate) fn print_column(value: u64) {
     print(b",");
     print_number(value);
 }
@@ -23,18 +23,18 @@ fn print_text(value: i64, line: &mut [u8]) {
     }
 }
 
-pub fn print_signed(value: i64) {
+pub(crate) fn print_signed(value: i64) {
     let mut line = [0u8; 32];
     print_text(value, &mut line);
 }
 
-pub fn print_refused(refusal: Refusal) {
+pub(crate) fn print_refused(refusal: Refusal) {
     print(b"refused,");
     print_number(refusal.number() as u64);
 }
 
 // A job in the order of the columns.
-pub fn print_job(job: Job) {
+pub(crate) fn print_job(job: Job) {
     print_number(job.chain);
     print_column(job.job);
     print_column(job.release);

@@ -16,7 +16,7 @@ fn read_from(file: i32) -> Reading {
 }
 
 // A file that is not there is an empty text.
-pub fn read_file(name: &[u8]) -> Reading {
+pub(crate) fn read_file(name: &[u8]) -> Reading {
     let file = os::open_read(name);
     let reading = read_from(file);
     libc::close(file);
@@ -24,13 +24,13 @@ pub fn read_file(name: &[u8]) -> Reading {
 }
 
 // The set of a table, or the empty set.
-pub fn set_of(name: &[u8]) -> JobSet {
+pub(crate) fn set_of(name: &[u8]) -> JobSet {
     let reading = read_file(name);
     reading.set
 }
 
 // How many jobs there are, and the last of them.
-pub fn print_set(set: JobSet) {
+pub(crate) fn print_set(set: JobSet) {
     let count = set.count;
     print_number(count as u64);
     if 0 < count {
@@ -41,7 +41,7 @@ pub fn print_set(set: JobSet) {
     }
 }
 
-pub fn print_reading(name: &[u8]) {
+pub(crate) fn print_reading(name: &[u8]) {
     print(b" ");
     let reading = read_file(name);
     let check = reading.check;

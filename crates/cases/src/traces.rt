@@ -61,7 +61,7 @@ fn print_run(set: JobSet, times: &[u64], numbers: &mut [u64]) {
     }
 }
 
-pub fn print_trace(name: &[u8]) {
+pub(crate) fn print_trace(name: &[u8]) {
     let set = set_of(name);
     let times = most_times(set);
     let mut numbers = [0u64; 512];
