@@ -11,4 +11,3 @@ pub mod Tracing
 pub mod Legality
 pub mod Reading
 pub mod Claims
-pub mod Scanning

@@ -18,7 +18,7 @@ use Rattle.machine.specs.declared.state.State.{State}
 use Rattle.machine.specs.declared.pick.Best.{Best}
 use Rattle.machine.specs.Ready.{ready}
 use Rattle.machine.specs.Pick.{outranks, goesFirst, preferred, pickUpTo, pick}
-use Rattle.machine.specs.Private.{bestOf, better, considered}
+use Rattle.machine.specs.Best.{bestOf, better, considered}
 use Rattle.machine.proofs.Readiness.{Alike, ready-alike}
 
 -- ---- the relation

@@ -36,7 +36,8 @@ use Rattle.machine.specs.Times.{machineCheck}
 use Rattle.machine.specs.Pick.{pickUpTo, pick}
 use Rattle.machine.specs.Ticks.{allComplete, moved}
 use Rattle.machine.specs.Runs.{after, entry, completion, finish, completions, runOf}
-use Rattle.machine.specs.Private.{seen, stateOf, sumOf, bestOf, Prepared}
+use Rattle.machine.specs.Private.{seen, stateOf, sumOf, Prepared}
+use Rattle.machine.specs.Best.{bestOf}
 use Rattle.machine.proofs.RunningTimes.{set-accepted, times-each, times-brief, sum-limit}
 use Rattle.machine.proofs.Ticking.{pick-chosen, next-moved, advance-none, advance-found, advance-inside, advance-room, advance-work}
 use Rattle.machine.proofs.Course.{sum-worked, all-sum, sum-all, none-done, after-next, after-settled, pick-settled, Going, going, idle-early}

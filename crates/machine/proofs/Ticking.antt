@@ -32,7 +32,8 @@ use Rattle.machine.specs.Ready.{complete, ready}
 use Rattle.machine.specs.Pick.{pickUpTo, pick}
 use Rattle.machine.specs.Ticks.{allComplete, moved, next, tickOf}
 use Rattle.machine.specs.Steps.{possible, stateCheck, stepCheck, stepOf}
-use Rattle.machine.specs.Private.{seen, Shown, bestOf, Prepared}
+use Rattle.machine.specs.Private.{seen, Shown, Prepared}
+use Rattle.machine.specs.Best.{bestOf}
 use Rattle.machine.proofs.Every.{every-not, every-at, every-ext}
 use Rattle.machine.proofs.Readiness.{Alike, predecessor-bare, predecessor-alike, ready-parts, complete-ne}
 use Rattle.machine.proofs.RunningTimes.{set-accepted, times-each}

@@ -3,9 +3,6 @@
 --   seen         the table that columns of figures show
 --   Shown        columns hold the figures of a table's first n jobs
 --   carried      the effective release of a job, from the job before it
---   bestOf       the pick as the scan keeps it
---   better       the scan's best after a ready job
---   considered   the scan's best after one more job
 --   Brief        running times whose sum fits
 --   sumOf        the first n numbers of a list, added up
 --   Prepared     a set's columns and its running times, which have passed
@@ -58,19 +55,6 @@ pub record Shown (t : Table) (columns : Columns) (n : ℕ) : Type 0 where
 -- The job before is `last`, with the effective release `before`; before a table's first job stands no job.
 unfoldable pub carried : Job → ℕ → Job → ℕ
 carried last before j = cond (eqb (last .chain) (j .chain)) (max (j .release) (before + last .least)) (j .release)
-
-abbrev pub bestOf : Table → Entry → Best
-bestOf t idle = record { found = false; at = 0; priority = 0; chain = 0 }
-bestOf t (runs u) = record { found = true; at = u; priority = t .urgency u; chain = t .chain u }
-
--- The best after a ready job of urgency p and chain c at u.
-unfoldable pub better : Best → ℕ → ℕ → ℕ → Best
-better best u p c =
-    let new : Best = record { found = true; at = u; priority = p; chain = c } in
-    cond (best .found) (cond (outranks p c (best .priority) (best .chain)) new best) new
-
-unfoldable pub considered : Table → List ℕ → State → Best → ℕ → Best
-considered t times s best u = cond (ready t times s u) (better best u (t .urgency u) (t .chain u)) best
 
 -- Running times of an accepted set: their sum fits.
 pub record Brief (times : List ℕ) : Type 0 where

@@ -4,7 +4,8 @@ ghost use Prim.Native.Nat.{_<_, _≤_};
 ghost use lib.ListN.{length};
 ghost use Rattle.jobs.specs.Limits.{maxJobs};
 ghost use Rattle.machine.specs.Pick.{outranks, pickUpTo};
-ghost use Rattle.machine.specs.Private.{seen, stateOf, bestOf, better, considered};
+ghost use Rattle.machine.specs.Private.{seen, stateOf};
+ghost use Rattle.machine.specs.Best.{bestOf, better, considered};
 use crate::ready::is_ready;
 use jobs::set::JobSet;
 
@@ -30,7 +31,7 @@ fn is_outranking(priority: u64, chain: u64, best: Best) -> bool
 }
 
 // A ready job takes the place of the best so far where it goes before it.
-pub(crate) fn better_of(best: Best, at: usize, priority: u64, chain: u64) -> Best
+pub fn better_of(best: Best, at: usize, priority: u64, chain: u64) -> Best
     ensures { λ r. ⌜ r ≡ better best at priority chain ⌝ }
 {
     if best.found {

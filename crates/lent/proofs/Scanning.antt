@@ -15,13 +15,14 @@ use Rattle.theory.specs.Table.{Table, joined}
 use Rattle.theory.specs.Releases.{effectiveEarliest, given, tableOf}
 use Rattle.theory.proofs.Rules.{first-after}
 use Rattle.theory.proofs.Releases.{release-first, release-next}
 use Rattle.machine.specs.declared.state.State.{State}
-use Rattle.machine.specs.declared.scan.Scan.{Scan}
+use Rattle.lent.specs.declared.scan.Scan.{Scan}
 use Rattle.machine.specs.Ready.{predecessorComplete, ready}
 use Rattle.machine.specs.Pick.{pickUpTo}
-use Rattle.machine.specs.Private.{bestOf, better, considered}
-use Rattle.machine.specs.Scans.{scanOf, follows, releasedBy, sinceBy, kept, readyBy, lookedAt}
+use Rattle.machine.specs.Best.{bestOf, better, considered}
+use Rattle.lent.specs.Scans.{scanOf}
+use Rattle.lent.specs.Private.{follows, releasedBy, sinceBy, kept, readyBy, lookedAt}
 use Rattle.machine.proofs.Picks.{considered-next}
 
 -- a released record
 module _ (scan : Scan) (j : Job) (u time : ℕ) (h : releasedBy scan j u time ≡ true) where

@@ -1,8 +1,8 @@
 -- `best_after` meets its contract. Assumes nothing.
 use mathlib.Core.Path.{sym, _∙_}
 use borrow.Author.Needs.{needs}
-use Rattle.machine.proofs.scan.best_after.Statement.{statement}
-use Rattle.machine.proofs.scan.best_after.Tie as tie
+use Rattle.lent.proofs.scan.best_after.Statement.{statement}
+use Rattle.lent.proofs.scan.best_after.Tie as tie
 
 is-ready-record-requires : tie.Need-is-ready-record-requires
 is-ready-record-requires c κs = search needs

@@ -2,9 +2,9 @@
 use mathlib.Core.Path.{sym, _∙_}
 use borrow.Author.Tests.{not-true, not-false}
 use borrow.Author.Needs.{needs}
-use Rattle.machine.specs.Scans.{releasedBy}
-use Rattle.machine.proofs.scan.is_released.Statement.{statement}
-use Rattle.machine.proofs.scan.is_released.Tie as tie
+use Rattle.lent.specs.Private.{releasedBy}
+use Rattle.lent.proofs.scan.is_released.Statement.{statement}
+use Rattle.lent.proofs.scan.is_released.Tie as tie
 
 is-following-requires : tie.Need-is-following-requires
 is-following-requires c κs = search needs

@@ -1,8 +1,8 @@
 -- `is_following` meets its contract. Assumes nothing.
 use borrow.Author.Needs.{needs}
-use Rattle.machine.specs.Scans.{follows}
-use Rattle.machine.proofs.scan.is_following.Statement.{statement}
-use Rattle.machine.proofs.scan.is_following.Tie as tie
+use Rattle.lent.specs.Private.{follows}
+use Rattle.lent.proofs.scan.is_following.Statement.{statement}
+use Rattle.lent.proofs.scan.is_following.Tie as tie
 
 returns : tie.Need-returns
 unfolding follows

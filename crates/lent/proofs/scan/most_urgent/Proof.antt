@@ -50,27 +50,28 @@ use denote.Triple.Table.{entered, cited}
 use denote.Triple.Walked.{says, Stays, stay-none-slice, stay-none, walkOf, AllGo, goes-none, goes-none-slice, Walks, ends-at, walked, walk-meets}
 use denote.Exit.{yes}
 use Rattle.jobs.specs.Jobs.{noJob}
-use Rattle.machine.specs.Scans.{scanOf, lookedAt}
+use Rattle.lent.specs.Scans.{scanOf}
+use Rattle.lent.specs.Private.{lookedAt}
 use Rattle.jobs.specs.declared.job.Job.{Job}
-use Rattle.machine.specs.declared.scan.Scan.{Scan}
+use Rattle.lent.specs.declared.scan.Scan.{Scan}
 use Rattle.machine.specs.declared.state.State.{State}
-use Rattle.machine.proofs.Scanning.{looked-next}
-use Rattle.machine.proofs.scan.look_at.Symbol.{name as #look-at}
-use Rattle.machine.proofs.scan.most_urgent.Key.{name as #most-urgent}
+use Rattle.lent.proofs.Scanning.{looked-next}
+use Rattle.lent.proofs.scan.look_at.Symbol.{name as #look-at}
+use Rattle.lent.proofs.scan.most_urgent.Key.{name as #most-urgent}
 use denote.Struct.Laws as LL
 use Rattle.machine.proofs.state.State as S
 use Rattle.machine.proofs.state.State.Laws as S′
 use Rattle.jobs.proofs.job.Job as J
 use Rattle.jobs.proofs.job.Job.Laws as J′
-use Rattle.machine.proofs.scan.Scan as B
-use Rattle.machine.proofs.scan.Scan.Laws as B′
-use Rattle.machine.proofs.scan.look_at as look
-use Rattle.machine.proofs.scan.look_at.Symbol as look-def
-use Rattle.machine.proofs.scan.look_at.Met as look-thm
-use Rattle.machine.proofs.scan.most_urgent as most-urgent
-use Rattle.machine.proofs.scan.most_urgent.Statement as stated
-use Rattle.machine.proofs.scan.most_urgent.Code as code
-use Rattle.machine.proofs.scan.most_urgent.Code.Mir as body
+use Rattle.lent.proofs.scan.Scan as B
+use Rattle.lent.proofs.scan.Scan.Laws as B′
+use Rattle.lent.proofs.scan.look_at as look
+use Rattle.lent.proofs.scan.look_at.Symbol as look-def
+use Rattle.lent.proofs.scan.look_at.Met as look-thm
+use Rattle.lent.proofs.scan.most_urgent as most-urgent
+use Rattle.lent.proofs.scan.most_urgent.Statement as stated
+use Rattle.lent.proofs.scan.most_urgent.Code as code
+use Rattle.lent.proofs.scan.most_urgent.Code.Mir as body
 
 abbrev stayed : Stays (most-urgent.ended .signature .params) (most-urgent.ended .kept)
 stayed = (stay-none-slice (0 ∷ []) tt (plain (λ _. J.the-row)) yes, (stay-none-slice (1 ∷ []) tt (plain (λ _. u64)) yes, (stay-none (λ _. S.the-row) yes, tt)))
@@ -327,4 +328,4 @@ most-urgent-spec 𝓤 H 𝓜 𝓖 𝓡 =
     entered 𝓤 H (tripleOf 𝓤 H (𝓖 .A) most-urgent.signature (most-urgent.spec 𝓤 H (𝓖 .A) (𝓜 .mem) (𝓡 .run)))
     (tables 𝓤 H 𝓜 𝓡 code.env .C) (tables 𝓤 H 𝓜 𝓡 code.env .Λ) #most-urgent code.function (code.unfolded 𝓤 H 𝓜 𝓡)
     (most-urgent-meets 𝓤 H (𝓖 .A) (givenOf 𝓤 H 𝓜 𝓖) (𝓜 .mem) (𝓡 .run) (tablesOf 𝓤 H 𝓜 (tables 𝓤 H 𝓜 𝓡 code.env))
-    (cited 𝓤 H (Look 𝓤 H (𝓖 .A) (𝓜 .mem) (𝓡 .run)) 𝓜 𝓡 code.env #look-at look-def.routine code.calls-machine·scan·look-at (look-thm.met 𝓤 H 𝓜 𝓖 𝓡)))
+    (cited 𝓤 H (Look 𝓤 H (𝓖 .A) (𝓜 .mem) (𝓡 .run)) 𝓜 𝓡 code.env #look-at look-def.routine code.calls-lent·scan·look-at (look-thm.met 𝓤 H 𝓜 𝓖 𝓡)))

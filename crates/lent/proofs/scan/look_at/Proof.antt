@@ -1,9 +1,9 @@
 -- `look_at` meets its contract. Assumes nothing.
 use borrow.Author.Needs.{needs}
 use Rattle.machine.specs.Ready.{complete}
-use Rattle.machine.specs.Scans.{lookedAt}
-use Rattle.machine.proofs.scan.look_at.Statement.{statement}
-use Rattle.machine.proofs.scan.look_at.Tie as tie
+use Rattle.lent.specs.Private.{lookedAt}
+use Rattle.lent.proofs.scan.look_at.Statement.{statement}
+use Rattle.lent.proofs.scan.look_at.Tie as tie
 
 slice-aggregate-number-at : tie.Need-slice-aggregate-number-at
 slice-aggregate-number-at c = search needs

@@ -1,11 +1,11 @@
 // One tick in the caller's memory.
 ghost use mathlib.Core.Path.{_≡_};
 ghost use Rattle.jobs.specs.Jobs.{jobsOf};
 ghost use Rattle.machine.specs.Steps.{stepOf};
-use crate::state::State;
-use crate::step::Ticked;
-use crate::step::step;
 use jobs::set::JobSet;
+use machine::state::State;
+use machine::step::Ticked;
+use machine::step::step;
 
 // One tick, applied to the state where the caller keeps it; on a refusal, and where all is finished, the state is as before.
 pub fn tick(state: &mut State, set: JobSet, times: &[u64]) -> Ticked

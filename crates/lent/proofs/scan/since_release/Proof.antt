@@ -3,10 +3,10 @@ use mathlib.Core.Path.{sym, _∙_}
 use native.Mathlib.Omega.{arith}
 use borrow.Author.Tests.{not-true, not-false}
 use borrow.Author.Needs.{needs}
-use Rattle.machine.specs.Scans.{sinceBy}
-use Rattle.machine.proofs.Scanning.{released-own, released-chain}
-use Rattle.machine.proofs.scan.since_release.Statement.{statement}
-use Rattle.machine.proofs.scan.since_release.Tie as tie
+use Rattle.lent.specs.Private.{sinceBy}
+use Rattle.lent.proofs.Scanning.{released-own, released-chain}
+use Rattle.lent.proofs.scan.since_release.Statement.{statement}
+use Rattle.lent.proofs.scan.since_release.Tie as tie
 
 is-released-requires : tie.Need-is-released-requires
 is-released-requires c κs = search needs

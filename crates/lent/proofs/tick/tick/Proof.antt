@@ -40,29 +40,29 @@ use denote.Triple.Table.{entered, cited}
 use denote.Triple.Walked.{says, Stays, stay-ref, stay-none, stay-none-slice, walkOf, AllGo, goes-none, goes-none-slice, goes-ref, Walks, ends-at, walked, walk-meets}
 use denote.Exit.{yes}
 use Rattle.jobs.specs.Jobs.{jobsOf}
 use Rattle.machine.specs.Steps.{stepOf}
 use Rattle.machine.specs.declared.state.State.{State}
 use Rattle.jobs.specs.declared.set.JobSet.{JobSet}
 use Rattle.machine.specs.declared.step.Stepped.{Stepped}
 use Rattle.machine.specs.declared.step.Ticked.{Ticked}
 use Rattle.machine.proofs.step.step.Symbol.{name as #step}
-use Rattle.machine.proofs.tick.tick.Key.{name as #tick}
+use Rattle.lent.proofs.tick.tick.Key.{name as #tick}
 use denote.Struct.Laws as LL
 use denote.Enum.Laws as EL
 use Rattle.jobs.proofs.set.JobSet as D
 use Rattle.jobs.proofs.set.JobSet.Laws as D′
 use Rattle.machine.proofs.state.State as S
 use Rattle.machine.proofs.state.State.Laws as S′
 use Rattle.machine.proofs.step.Stepped as P
 use Rattle.machine.proofs.step.Stepped.Laws as P′
 use Rattle.machine.proofs.step.Ticked as K
 use Rattle.machine.proofs.step.Ticked.Laws as K′
 use Rattle.machine.proofs.step.step as step
 use Rattle.machine.proofs.step.step.Symbol as step-def
 use Rattle.machine.proofs.step.step.Met as step-thm
-use Rattle.machine.proofs.tick.tick as tick
-use Rattle.machine.proofs.tick.tick.Statement as stated
-use Rattle.machine.proofs.tick.tick.Code as code
+use Rattle.lent.proofs.tick.tick as tick
+use Rattle.lent.proofs.tick.tick.Statement as stated
+use Rattle.lent.proofs.tick.tick.Code as code
 
 abbrev stayed : Stays (tick.ended .signature .params) (tick.ended .kept)
 stayed = (stay-ref (0 ∷ []) tt (plain (λ _. S.the-row)), (stay-none (λ _. D.the-row) yes, (stay-none-slice (1 ∷ []) tt (plain (λ _. u64)) yes, tt)))

@@ -2,10 +2,10 @@
 use mathlib.Core.Path.{sym, _∙_}
 use borrow.Author.Tests.{not-true, not-false}
 use borrow.Author.Needs.{needs}
-use Rattle.machine.specs.Scans.{readyBy}
+use Rattle.lent.specs.Private.{readyBy}
 use Rattle.machine.proofs.Readiness.{eq-complete, ne-complete}
-use Rattle.machine.proofs.scan.is_ready_record.Statement.{statement}
-use Rattle.machine.proofs.scan.is_ready_record.Tie as tie
+use Rattle.lent.proofs.scan.is_ready_record.Statement.{statement}
+use Rattle.lent.proofs.scan.is_ready_record.Tie as tie
 
 is-released-requires : tie.Need-is-released-requires
 is-released-requires c κs = search needs

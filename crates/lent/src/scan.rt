@@ -2,12 +2,13 @@
 ghost use mathlib.Core.Path.{_≡_};
 ghost use lib.ListN.{length, getD};
 ghost use mathlib.Core.Bool.{cond};
-ghost use Rattle.machine.specs.Private.{better};
-ghost use Rattle.machine.specs.Scans.{follows, releasedBy, sinceBy, kept, readyBy, lookedAt, scanOf};
-use crate::pick::Best;
-use crate::pick::better_of;
-use crate::state::State;
+ghost use Rattle.machine.specs.Best.{better};
+ghost use Rattle.lent.specs.Scans.{scanOf};
+ghost use Rattle.lent.specs.Private.{follows, releasedBy, sinceBy, kept, readyBy, lookedAt};
 use jobs::job::Job;
+use machine::pick::Best;
+use machine::pick::better_of;
+use machine::state::State;
 
 // What a scan knows: the most urgent ready job so far, and of the last record its chain, its least time, whether it is complete, and whether and for how
 // long it is released.

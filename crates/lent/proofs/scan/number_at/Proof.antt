@@ -2,8 +2,8 @@
 use mathlib.Core.Path.{sym}
 use lib.ListN.{List·getD-eq-default}
 use borrow.Author.Needs.{needs}
-use Rattle.machine.proofs.scan.number_at.Statement.{statement}
-use Rattle.machine.proofs.scan.number_at.Tie as tie
+use Rattle.lent.proofs.scan.number_at.Statement.{statement}
+use Rattle.lent.proofs.scan.number_at.Tie as tie
 
 mul-result : tie.Need-mul-result
 mul-result c = search needs
