@@ -1,6 +1,8 @@
 pub mod Prior
 pub mod Weights
-pub mod Scans
+pub mod Stretches
+pub mod Shares
+pub mod Endings
 pub mod Unread
 pub mod Pairs
 pub mod Predecessors

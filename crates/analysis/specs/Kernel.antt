@@ -3,11 +3,15 @@
 --   Fit                          what the private functions ask of a table
 --   roundAt                      the bound that a round gives the job at a place
 --   weightOf, spanned            what a job counts in a pair, by its own figures and by its place
---   entered, extended, stepped   a scan for blocks at its next job
+--   opened                       an open block after one more job
+--   openOver, largestOver        the open and the largest block over places of one chain
+--   EndsAt, Ended                where chains end
 --   notBefore                    a time of a job that does not come before one of its predecessor
 --   column, columnsOf            a figure of each job in an array, and those of a table that the bounds are made from
 -- Assumes nothing.
-use Prim.Native.Nat.{ℕ, suc, _+_, _*_, _≤_, _<_, max}
+use Prim.Native.Nat.{ℕ, zero, suc, _+_, _*_, _≤_, _<_, max}
+use mathlib.Core.Path.{_≡_}
+use mathlib.Core.Logic.{_≢_}
 use mathlib.Core.Bool.{cond, _&&_}
 use mathlib.Core.List.{List}
 use lib.Dec.{leb, ltb, eqb}
@@ -17,7 +21,6 @@ use Rattle.jobs.specs.Limits.{maxJobs, maxRelease, maxTime}
 use Rattle.theory.specs.Table.{Table}
 use Rattle.theory.specs.Bounds.{largestPair}
 use Rattle.theory.specs.Rounds.{overlap}
-use Rattle.analysis.specs.declared.scan.Scan.{Scan}
 use Rattle.analysis.specs.declared.columns.Columns.{Columns}
 
 -- The bounds do not read the least times.
@@ -53,24 +56,33 @@ weightOf from to most release bound = cond (ltb from bound && ltb release to) mo
 abbrev pub spanned : List ℕ → List ℕ → List ℕ → ℕ → ℕ → ℕ → ℕ
 spanned most earliest bound from to u = weightOf from to (getD most u 0) (getD earliest u 0) (getD bound u 0)
 
--- At a job of another chain the last chain's largest block is one of those before.
-unfoldable pub entered : Scan → ℕ → Scan
-entered s chain = cond (eqb (s .chain) chain) s (record { chain = chain; before = s .total; block = s .total; total = s .total })
+-- The open block after one more job of its chain: an urgent one goes on with it, any other ends it.
+unfoldable pub opened : ℕ → ℕ → ℕ → ℕ → ℕ
+opened block target urgency weight = cond (leb target urgency) (block + weight) 0
 
--- An urgent job goes on with the open block, any other ends it.
-unfoldable pub extended : Scan → ℕ → ℕ → ℕ → Scan
-extended s target urgency weight =
-    record {
-      chain = s .chain;
-      before = s .before;
-      block = cond (leb target urgency) (s .block + weight) (s .before);
-      total = cond (leb target urgency) (max (s .total) (s .block + weight)) (s .total);
-    }
+-- The block that reaches the last of n places from `first` on, where all are of one chain.
+unfoldable pub openOver : (ℕ → ℕ) → ℕ → (ℕ → ℕ) → ℕ → ℕ → ℕ
+openOver urgency target weight first zero = 0
+openOver urgency target weight first (suc n) =
+    let before = openOver urgency target weight first n in
+    opened before target (urgency (first + n)) (weight (first + n))
 
--- A job of the target's own chain counts nothing.
-unfoldable pub stepped : ℕ → ℕ → Scan → ℕ → ℕ → ℕ → Scan
-stepped own target s chain urgency weight =
-    cond (eqb chain own) (entered s chain) (extended (entered s chain) target urgency weight)
+-- The largest block among them.
+unfoldable pub largestOver : (ℕ → ℕ) → ℕ → (ℕ → ℕ) → ℕ → ℕ → ℕ
+largestOver urgency target weight first zero = 0
+largestOver urgency target weight first (suc n) =
+    max (largestOver urgency target weight first n) (openOver urgency target weight first (suc n))
+
+-- The chain of the job at i ends before e.
+pub record EndsAt (count : ℕ) (chain : ℕ → ℕ) (i e : ℕ) : Type 0 where
+  pub later : i < e
+  pub within : e ≤ count
+  pub same : (u : ℕ) → i ≤ u → u < e → chain u ≡ chain i
+  pub other : e < count → chain e ≢ chain i
+
+-- The place after the last job of each job's chain.
+abbrev pub Ended : ℕ → List ℕ → List ℕ → Type 0
+Ended count chain ends = (i : ℕ) → i < count → EndsAt count (λ u. getD chain u 0) i (getD ends i 0)
 
 -- A time of a job that does not come before one of its predecessor; the job before it is of chain `last`.
 unfoldable pub notBefore : ℕ → ℕ → ℕ → ℕ → ℕ

@@ -9,6 +9,7 @@ ghost use Rattle.theory.specs.Bounds.{cja as Theory·cja};
 ghost use Rattle.analysis.specs.Analysis.{cjaOf};
 use crate::answer::Bounds;
 use crate::columns::columns_of;
+use crate::ends::ends_of;
 use crate::round::round;
 use jobs::check::check;
 use jobs::refusal::Check;
@@ -22,8 +23,10 @@ pub(crate) fn accepted_cja(set: JobSet) -> [u64; JobSet::MAX_JOBS]
     let count = set.count;
     let columns = columns_of(set);
     let late = [Bounds::LIMIT; JobSet::MAX_JOBS];
+    let ends = ends_of(count, &columns.chain);
     round(
         count,
+        &ends,
         &columns.chain,
         &columns.urgency,
         &columns.most,

@@ -7,9 +7,10 @@ ghost use Rattle.jobs.specs.Checks.{checkOf};
 ghost use Rattle.theory.specs.Releases.{tableOf};
 ghost use Rattle.theory.specs.Bounds.{ert as Theory·ert};
 ghost use Rattle.analysis.specs.Analysis.{ertOf};
-ghost use Rattle.analysis.specs.Kernel.{lent, Fit};
+ghost use Rattle.analysis.specs.Kernel.{lent, Fit, Ended};
 use crate::answer::Bounds;
 use crate::columns::columns_of;
+use crate::ends::ends_of;
 use crate::interference::interference;
 use crate::predecessor::not_before;
 use jobs::check::check;
@@ -19,13 +20,14 @@ use jobs::set::JobSet;
 // By the ERT rule, job by job; the bound of every job is so late that each of them counts.
 fn by_rule<'a>(
     count: usize,
+    ends: &'a [usize; JobSet::MAX_JOBS],
     chain: &'a [u64; JobSet::MAX_JOBS],
     urgency: &'a [u64; JobSet::MAX_JOBS],
     most: &'a [u64; JobSet::MAX_JOBS],
     earliest: &'a [u64; JobSet::MAX_JOBS],
     latest: &'a [u64; JobSet::MAX_JOBS],
 ) -> [u64; JobSet::MAX_JOBS]
-    requires { ⌜ Fit (lent count (now chain) (now urgency) (now most) (now earliest) (now latest)) ⌝ }
+    requires { ⌜ Fit (lent count (now chain) (now urgency) (now most) (now earliest) (now latest)) × Ended count (now chain) (now ends) ⌝ }
     ensures { λ r. ⌜ r ≡ padded maxJobs 0 (Theory·ert (lent count (now (chain .entry)) (now (urgency .entry)) (now (most .entry)) (now (earliest .entry)) (now (latest .entry)))) ⌝ }
 {
     let late = [Bounds::LIMIT; JobSet::MAX_JOBS];
@@ -36,6 +38,7 @@ fn by_rule<'a>(
     while i < count {
         let delay = interference(
             count,
+            ends,
             chain,
             urgency,
             most,
@@ -61,8 +64,10 @@ pub(crate) fn accepted_ert(set: JobSet) -> [u64; JobSet::MAX_JOBS]
 {
     let count = set.count;
     let columns = columns_of(set);
+    let ends = ends_of(count, &columns.chain);
     by_rule(
         count,
+        &ends,
         &columns.chain,
         &columns.urgency,
         &columns.most,

@@ -8,9 +8,10 @@ ghost use Rattle.jobs.specs.Checks.{checkOf};
 ghost use Rattle.theory.specs.Releases.{tableOf};
 ghost use Rattle.theory.specs.Rounds.{itrStart, sameBounds, itr as Theory·itr};
 ghost use Rattle.analysis.specs.Analysis.{itrWith, itrOf};
-ghost use Rattle.analysis.specs.Kernel.{lent, Fit};
+ghost use Rattle.analysis.specs.Kernel.{lent, Fit, Ended};
 use crate::answer::Itr;
 use crate::columns::columns_of;
+use crate::ends::ends_of;
 use crate::predecessor::not_before;
 use crate::round::round;
 use jobs::check::check;
@@ -64,28 +65,30 @@ fn same_bounds<'a, 'b>(
 // Rounds until one changes no bound; that one counts.
 fn settle<'a>(
     count: usize,
+    ends: &'a [usize; JobSet::MAX_JOBS],
     chain: &'a [u64; JobSet::MAX_JOBS],
     urgency: &'a [u64; JobSet::MAX_JOBS],
     most: &'a [u64; JobSet::MAX_JOBS],
     earliest: &'a [u64; JobSet::MAX_JOBS],
     latest: &'a [u64; JobSet::MAX_JOBS],
 ) -> Itr
-    requires { ⌜ Fit (lent count (now chain) (now urgency) (now most) (now earliest) (now latest)) ⌝ }
+    requires { ⌜ Fit (lent count (now chain) (now urgency) (now most) (now earliest) (now latest)) × Ended count (now chain) (now ends) ⌝ }
     ensures { λ r. ⌜ r ≡ itrWith Check.Passed (Theory·itr (lent count (now (chain .entry)) (now (urgency .entry)) (now (most .entry)) (now (earliest .entry)) (now (latest .entry)))) ⌝ }
 {
     let mut bounds = start(count, chain, urgency, most, earliest, latest);
     let mut rounds: u64 = 0;
     loop {
-        let next = round(count, chain, urgency, most, earliest, latest, &bounds);
+        let next = round(count, ends, chain, urgency, most, earliest, latest, &bounds);
+        let taken = rounds + 1;
         if same_bounds(count, &next, &bounds) {
             return Itr {
                 check: Check::Passed,
                 bounds: next,
-                rounds: rounds + 1,
+                rounds: taken,
             };
         }
         bounds = next;
-        rounds += 1;
+        rounds = taken;
     }
 }
 
@@ -96,8 +99,10 @@ pub(crate) fn accepted_itr(set: JobSet) -> Itr
 {
     let count = set.count;
     let columns = columns_of(set);
+    let ends = ends_of(count, &columns.chain);
     settle(
         count,
+        &ends,
         &columns.chain,
         &columns.urgency,
         &columns.most,

@@ -1,8 +1,10 @@
 // The bounds of a set of jobs, and what follows from them: slack, verdict and admission.
 pub mod admission;
 pub mod answer;
+pub mod block;
 pub mod cja;
 pub mod columns;
+pub mod ends;
 pub mod ert;
 pub mod figures;
 pub mod interference;
@@ -11,6 +13,5 @@ pub mod number;
 pub mod pair;
 pub mod predecessor;
 pub mod round;
-pub mod scan;
 pub mod slack;
 pub mod verdict;

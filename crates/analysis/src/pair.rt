@@ -1,7 +1,7 @@
 // The largest sum over the pairs that end with one job.
 ghost use mathlib.Core.Path.{_≡_};
 ghost use Prim.Native.Nat.{_<_};
-ghost use Rattle.analysis.specs.Kernel.{lent, Fit, roundAt};
+ghost use Rattle.analysis.specs.Kernel.{lent, Fit, Ended, roundAt};
 use crate::interference::interference;
 use crate::number::larger;
 use crate::number::lower;
@@ -10,6 +10,7 @@ use jobs::set::JobSet;
 // The pairs (k, j) with k from j down to the chain's first job, where a job counts if its span by `bound` overlaps the pair's.
 pub(crate) fn largest_pair<'a, 'b>(
     count: usize,
+    ends: &'a [usize; JobSet::MAX_JOBS],
     chain: &'a [u64; JobSet::MAX_JOBS],
     urgency: &'a [u64; JobSet::MAX_JOBS],
     most: &'a [u64; JobSet::MAX_JOBS],
@@ -18,7 +19,7 @@ pub(crate) fn largest_pair<'a, 'b>(
     bound: &'b [u64; JobSet::MAX_JOBS],
     j: usize,
 ) -> u64
-    requires { ⌜ Fit (lent count (now chain) (now urgency) (now most) (now earliest) (now latest)) × (j < count) ⌝ }
+    requires { ⌜ Fit (lent count (now chain) (now urgency) (now most) (now earliest) (now latest)) × Ended count (now chain) (now ends) × (j < count) ⌝ }
     ensures { λ r. ⌜ r ≡ roundAt (lent count (now (chain .entry)) (now (urgency .entry)) (now (most .entry)) (now (earliest .entry)) (now (latest .entry))) (now (bound .entry)) j ⌝ }
 {
     let own = chain[j];
@@ -36,6 +37,7 @@ pub(crate) fn largest_pair<'a, 'b>(
         low = lower(low, urgency[k]);
         let delay = interference(
             count,
+            ends,
             chain,
             urgency,
             most,

@@ -3,13 +3,14 @@ ghost use mathlib.Core.Path.{_≡_};
 ghost use Rattle.laws.specs.Places.{padded};
 ghost use Rattle.jobs.specs.Limits.{maxJobs};
 ghost use Rattle.theory.specs.Rounds.{round as Theory·round};
-ghost use Rattle.analysis.specs.Kernel.{lent, Fit};
+ghost use Rattle.analysis.specs.Kernel.{lent, Fit, Ended};
 use crate::pair::largest_pair;
 use jobs::set::JobSet;
 
 // The bounds of all jobs from the bounds before.
 pub(crate) fn round<'a, 'b>(
     count: usize,
+    ends: &'a [usize; JobSet::MAX_JOBS],
     chain: &'a [u64; JobSet::MAX_JOBS],
     urgency: &'a [u64; JobSet::MAX_JOBS],
     most: &'a [u64; JobSet::MAX_JOBS],
@@ -17,13 +18,23 @@ pub(crate) fn round<'a, 'b>(
     latest: &'a [u64; JobSet::MAX_JOBS],
     bound: &'b [u64; JobSet::MAX_JOBS],
 ) -> [u64; JobSet::MAX_JOBS]
-    requires { ⌜ Fit (lent count (now chain) (now urgency) (now most) (now earliest) (now latest)) ⌝ }
+    requires { ⌜ Fit (lent count (now chain) (now urgency) (now most) (now earliest) (now latest)) × Ended count (now chain) (now ends) ⌝ }
     ensures { λ r. ⌜ r ≡ padded maxJobs 0 (Theory·round (lent count (now (chain .entry)) (now (urgency .entry)) (now (most .entry)) (now (earliest .entry)) (now (latest .entry))) (now (bound .entry))) ⌝ }
 {
     let mut bounds = [0u64; JobSet::MAX_JOBS];
     let mut j: usize = 0;
     while j < count {
-        bounds[j] = largest_pair(count, chain, urgency, most, earliest, latest, bound, j);
+        bounds[j] = largest_pair(
+            count,
+            ends,
+            chain,
+            urgency,
+            most,
+            earliest,
+            latest,
+            bound,
+            j,
+        );
         j += 1;
     }
     bounds

@@ -16,11 +16,11 @@ use Rattle.analysis.proofs.ert.by_rule.Statement.{statement}
 use Rattle.analysis.proofs.ert.by_rule.Tie as tie
 
 abbrev Inv-loop : tie.InvT-loop
-Inv-loop count chain urgency most earliest latest late₀ bounds₀ last₀ bound₀ i₀ bounds last bound i =
+Inv-loop count ends chain urgency most earliest latest late₀ bounds₀ last₀ bound₀ i₀ bounds last bound i =
     Ruled (lent count chain urgency most earliest latest) (interferenceAt (lent count chain urgency most earliest latest)) i last bound bounds
 
 abbrev μ-loop : tie.MeasureT-loop
-μ-loop count chain urgency most earliest latest late₀ bounds₀ last₀ bound₀ i₀ bounds last bound i = count - i
+μ-loop count ends chain urgency most earliest latest late₀ bounds₀ last₀ bound₀ i₀ bounds last bound i = count - i
 
 -- the table of the lent columns
 abbrev table : tie.Start Inv-loop μ-loop → Table
@@ -31,10 +31,10 @@ abbrev Delay : tie.Start Inv-loop μ-loop → ℕ → ℕ → Type 0
 Delay s i delay = delay ≡ interference (lent (s .args .count) (s .args .chain .now) (s .args .urgency .now) (s .args .most .now) (s .args .earliest .now) (s .args .earliest .now)) (getD (s .args .chain .now) i 0) (getD (s .args .urgency .now) i 0) (spanned (s .args .most .now) (s .args .earliest .now) late 0 boundLimit)
 
 delay-is : (s : tie.Start Inv-loop μ-loop) (i delay : ℕ) → Delay s i delay → delay ≡ interferenceAt (table s) i
-delay-is s i delay e = delay-late (s .args .count) (s .args .chain .now) (s .args .urgency .now) (s .args .most .now) (s .args .earliest .now) (s .args .latest .now) (s .pre) i delay e
+delay-is s i delay e = delay-late (s .args .count) (s .args .chain .now) (s .args .urgency .now) (s .args .most .now) (s .args .earliest .now) (s .args .latest .now) (s .pre .0) i delay e
 
 delay-small : (s : tie.Start Inv-loop μ-loop) (i delay : ℕ) → Delay s i delay → delay ≤ s .args .count * maxTime
-delay-small s i delay e = delay-limit (s .args .count) (s .args .chain .now) (s .args .urgency .now) (s .args .most .now) (s .args .earliest .now) (s .args .latest .now) late (s .pre .mosts) _ _ _ _ delay e
+delay-small s i delay e = delay-limit (s .args .count) (s .args .chain .now) (s .args .urgency .now) (s .args .most .now) (s .args .earliest .now) (s .args .latest .now) late (s .pre .0 .mosts) _ _ _ _ delay e
 
 loop-holds : tie.Need-loop-holds Inv-loop μ-loop
 loop-holds c = ruled-none (table c) (interferenceAt (table c))
@@ -80,16 +80,16 @@ add-bound c =
     let s = c .before .before .before .before .before .before .before .before .before .before in
     let l = c .before .before .before .before .before .before .before .before .before .loop in
     let h = c .before .before .before .before .before .before .before .before .loop-test .taken in
-    let time = ruled-time (table s) (interferenceAt (table s)) (s .pre) (l .inv) h (c .before .not-before .result) (c .before .not-before .ensures) in
-    search (needs, time, s .pre .mosts (l .i) h, s .pre .few, h)
+    let time = ruled-time (table s) (interferenceAt (table s)) (s .pre .0) (l .inv) h (c .before .not-before .result) (c .before .not-before .ensures) in
+    search (needs, time, s .pre .0 .mosts (l .i) h, s .pre .0 .few, h)
 
 add-bound-2 : tie.Need-add-bound-2 Inv-loop μ-loop
 add-bound-2 c =
     let s = c .before .before .before .before .before .before .before .before .before .before in
     let l = c .before .before .before .before .before .before .before .before .before .loop in
     let h = c .before .before .before .before .before .before .before .before .loop-test .taken in
-    let time = ruled-time (table s) (interferenceAt (table s)) (s .pre) (l .inv) h (c .before .not-before .result) (c .before .not-before .ensures) in
-    search (needs, time, s .pre .mosts (l .i) h, s .pre .few, h, delay-small s (l .i) (c .before .before .before .before .interference .result) (c .before .before .before .before .interference .ensures))
+    let time = ruled-time (table s) (interferenceAt (table s)) (s .pre .0) (l .inv) h (c .before .not-before .result) (c .before .not-before .ensures) in
+    search (needs, time, s .pre .0 .mosts (l .i) h, s .pre .0 .few, h, delay-small s (l .i) (c .before .before .before .before .interference .result) (c .before .before .before .before .interference .ensures))
 
 mul-bounds : tie.Need-mul-bounds Inv-loop μ-loop
 mul-bounds c = search needs
@@ -116,7 +116,7 @@ loop-again c =
     let h = c .before .before .before .before .before .before .before .before .before .loop-test .taken in
     let delay = c .before .before .before .before .before .interference .result in
     let is = delay-is s (l .i) delay (c .before .before .before .before .before .interference .ensures) in
-    ruled-next (table s) (interferenceAt (table s)) (s .pre) (l .inv) h (c .before .before .not-before .result) _ (c .before .before .not-before .ensures)
+    ruled-next (table s) (interferenceAt (table s)) (s .pre .0) (l .inv) h (c .before .before .not-before .result) _ (c .before .before .not-before .ensures)
     (omega (arith, is, delay-small s (l .i) delay (c .before .before .before .before .before .interference .ensures)))
     (ap (λ (d : ℕ). c .before .before .not-before .result + getD (s .args .most .now) (l .i) 0 + d) is)
 

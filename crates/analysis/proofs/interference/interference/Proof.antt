@@ -1,24 +1,25 @@
--- `interference` answers the theory's. The loop's invariant: the scan holds the blocks of the first i jobs. Assumes nothing.
-use Prim.Native.Nat.{ℕ, _-_, _≤_, _<_}
+-- `interference` answers the theory's. The loop's invariant: the shares of the chains before place i are added up. Assumes nothing.
+use Prim.Native.Nat.{ℕ, _+_, _*_, _-_, _≤_, _<_}
+use mathlib.Core.Path.{_≡_}
+use mathlib.Core.Bool.{cond}
 use native.Mathlib.Omega.{arith}
+use lib.Dec.{eqb}
 use lib.ListN.{getD}
 use borrow.Author.Needs.{needs}
 use Rattle.jobs.specs.Limits.{maxTime}
 use Rattle.theory.specs.Table.{Table}
-use Rattle.analysis.specs.Kernel.{lent, spanned}
-use Rattle.analysis.proofs.Prior.{prior}
+use Rattle.analysis.specs.Kernel.{lent, spanned, largestOver, EndsAt}
 use Rattle.analysis.proofs.Weights.{weight-le}
-use Rattle.analysis.proofs.Scans.{Scanned, scanned-none, scanned-step, scanned-all, block-total}
+use Rattle.analysis.proofs.Shares.{Shared, shared-none, shared-next, shared-all}
 use Rattle.analysis.proofs.interference.interference.Statement.{statement}
 use Rattle.analysis.proofs.interference.interference.Tie as tie
 
 abbrev Inv-loop : tie.InvT-loop
-Inv-loop count chain urgency most earliest bound own target from to scan₀ i₀ scan i =
-    (i ≤ count)
-    × Scanned (lent count chain urgency most earliest earliest) own target (spanned most earliest bound from to) maxTime i (prior (λ u. getD chain u 0) i) scan
+Inv-loop count ends chain urgency most earliest bound own target from to total₀ i₀ total i =
+    Shared (lent count chain urgency most earliest earliest) own target (spanned most earliest bound from to) maxTime i total
 
 abbrev μ-loop : tie.MeasureT-loop
-μ-loop count chain urgency most earliest bound own target from to scan₀ i₀ scan i = count - i
+μ-loop count ends chain urgency most earliest bound own target from to total₀ i₀ total i = count - i
 
 -- the table of the lent columns, and what each job counts
 abbrev table : tie.Start Inv-loop μ-loop → Table
@@ -28,70 +29,65 @@ abbrev counts : tie.Start Inv-loop μ-loop → ℕ → ℕ
 counts s = spanned (s .args .most .now) (s .args .earliest .now) (s .args .bound .now) (s .args .from) (s .args .to)
 
 counts-limit : (s : tie.Start Inv-loop μ-loop) (i : ℕ) → i < s .args .count → counts s i ≤ maxTime
-counts-limit s i l = omega (arith, s .pre .mosts i l, weight-le (s .args .from) (s .args .to) (getD (s .args .most .now) i 0) (getD (s .args .earliest .now) i 0) (getD (s .args .bound .now) i 0))
+counts-limit s i l = omega (arith, s .pre .0 .mosts i l, weight-le (s .args .from) (s .args .to) (getD (s .args .most .now) i 0) (getD (s .args .earliest .now) i 0) (getD (s .args .bound .now) i 0))
+
+-- the end of the chain at the loop's head
+abbrev end-at : tie.At-loop Inv-loop μ-loop → ℕ
+end-at l = getD (l .before .args .ends .now) (l .loop .i) 0
+
+module _ (l : tie.At-loop Inv-loop μ-loop) (h : l .loop .i < l .before .args .count) where
+  chain-ends : EndsAt (l .before .args .count) (λ u. getD (l .before .args .chain .now) u 0) (l .loop .i) (end-at l)
+  chain-ends = l .before .pre .1 (l .loop .i) h
+
+  shared-at : (y : ℕ)
+      → y ≡ cond (eqb (getD (l .before .args .chain .now) (l .loop .i) 0) (l .before .args .own)) 0 (largestOver (λ u. getD (l .before .args .urgency .now) u 0) (l .before .args .target) (counts (l .before)) (l .loop .i) (end-at l - l .loop .i))
+      → Shared (table (l .before)) (l .before .args .own) (l .before .args .target) (counts (l .before)) maxTime (end-at l) (l .loop .total + y)
+  shared-at y e =
+      let s = l .before in
+      shared-next (table s) (s .args .own) (s .args .target) (counts s) maxTime (s .pre .0 .ordered) (l .loop .i) (end-at l) h chain-ends (l .loop .total) (l .loop .inv)
+      (λ u ul. counts-limit s u (omega (arith, chain-ends .within))) y e
 
 loop-holds : tie.Need-loop-holds Inv-loop μ-loop
-loop-holds c = (omega arith, scanned-none (table c) (c .args .own) (c .args .target) (counts c) maxTime)
+loop-holds c = shared-none (table c) (c .args .own) (c .args .target) (counts c) maxTime
 
-mul-weight : tie.Need-mul-weight Inv-loop μ-loop
-mul-weight c = search needs
+mul-end : tie.Need-mul-end Inv-loop μ-loop
+mul-end c = search needs
 
-element-copy-out-weight : tie.Need-element-copy-out-weight Inv-loop μ-loop
-element-copy-out-weight c = search needs
+element-copy-out-end : tie.Need-element-copy-out-end Inv-loop μ-loop
+element-copy-out-end c = search needs
 
-mul-weight-2 : tie.Need-mul-weight-2 Inv-loop μ-loop
-mul-weight-2 c = search needs
+mul-share : tie.Need-mul-share Inv-loop μ-loop
+mul-share c = search needs
 
-element-copy-out-weight-2 : tie.Need-element-copy-out-weight-2 Inv-loop μ-loop
-element-copy-out-weight-2 c = search needs
+element-copy-out-share : tie.Need-element-copy-out-share Inv-loop μ-loop
+element-copy-out-share c = search needs
 
-mul-weight-3 : tie.Need-mul-weight-3 Inv-loop μ-loop
-mul-weight-3 c = search needs
+share-requires : tie.Need-share-requires Inv-loop μ-loop
+share-requires c κs =
+    let l = c .before .before .before in
+    let s = l .before in
+    let ends = chain-ends l (c .before .before .loop-test .taken) in
+    (omega (arith, ends .later), omega (arith, ends .within, s .pre .0 .few), λ i il. s .pre .0 .mosts i (omega (arith, ends .within)))
 
-element-copy-out-weight-3 : tie.Need-element-copy-out-weight-3 Inv-loop μ-loop
-element-copy-out-weight-3 c = search needs
-
-weight-requires : tie.Need-weight-requires Inv-loop μ-loop
-weight-requires c κs = search needs
-
-mul-step : tie.Need-mul-step Inv-loop μ-loop
-mul-step c = search needs
-
-element-copy-out-step : tie.Need-element-copy-out-step Inv-loop μ-loop
-element-copy-out-step c = search needs
-
-mul-step-2 : tie.Need-mul-step-2 Inv-loop μ-loop
-mul-step-2 c = search needs
-
-element-copy-out-step-2 : tie.Need-element-copy-out-step-2 Inv-loop μ-loop
-element-copy-out-step-2 c = search needs
-
-step-requires : tie.Need-step-requires Inv-loop μ-loop
-step-requires c κs =
-    let s = c .before .before .before .before .before .before .before .before in
-    let l = c .before .before .before .before .before .before .before .loop in
-    let h = c .before .before .before .before .before .before .loop-test .taken in
-    let b = block-total (table s) (s .args .own) (s .args .target) (counts s) (l .inv .1) in
-    omega (arith, s .pre .few, l .inv .1 .small, b, counts-limit s (l .i) h, h, c .before .before .weight .ensures)
-
-add-i : tie.Need-add-i Inv-loop μ-loop
-add-i c = search needs
+add-total : tie.Need-add-total Inv-loop μ-loop
+add-total c =
+    let l = c .before .before .before .before in
+    let h = c .before .before .before .loop-test .taken in
+    search (needs, shared-at l h (c .share .result) (c .share .ensures) .small, shared-at l h (c .share .result) (c .share .ensures) .inside, l .before .pre .0 .few)
 
 loop-less : tie.Need-loop-less Inv-loop μ-loop
-loop-less c = search needs
+loop-less c =
+    let l = c .before .before .before .before in
+    omega (arith, chain-ends l (c .before .before .before .loop-test .taken) .later, c .before .before .before .loop-test .taken)
 
 loop-again : tie.Need-loop-again Inv-loop μ-loop
-loop-again c =
-    let s = c .before .before .before .before .before .before .before .before .before in
-    let l = c .before .before .before .before .before .before .before .before .loop in
-    let h = c .before .before .before .before .before .before .before .loop-test .taken in
-    (omega arith, rw (c .step .ensures, c .before .before .before .weight .ensures) (scanned-step (table s) (s .args .own) (s .args .target) (counts s) maxTime (s .pre .ordered) (l .i) h (l .scan) (counts-limit s (l .i) h) (l .inv .1)))
+loop-again c = shared-at (c .before .before .before .before) (c .before .before .before .loop-test .taken) (c .share .result) (c .share .ensures)
 
 returns : tie.Need-returns Inv-loop μ-loop
 returns c =
     let s = c .before .before in
     let l = c .before .loop in
-    scanned-all (table s) (s .args .own) (s .args .target) (counts s) maxTime (l .i) _ (l .scan) (omega (arith, l .inv .0, c .loop-test .left)) (l .inv .1)
+    shared-all (table s) (s .args .own) (s .args .target) (counts s) maxTime (l .i) (l .total) (omega (arith, c .loop-test .left)) (l .inv)
 
 pub interference-spec : {M : Type 1} → statement M
 interference-spec =
@@ -100,19 +96,12 @@ interference-spec =
     Inv-loop
     μ-loop
     loop-holds
-    mul-weight
-    element-copy-out-weight
-    mul-weight-2
-    element-copy-out-weight-2
-    mul-weight-3
-    element-copy-out-weight-3
-    weight-requires
-    mul-step
-    element-copy-out-step
-    mul-step-2
-    element-copy-out-step-2
-    step-requires
-    add-i
+    mul-end
+    element-copy-out-end
+    mul-share
+    element-copy-out-share
+    share-requires
+    add-total
     loop-less
     loop-again
     returns)

@@ -12,10 +12,10 @@ use Rattle.analysis.proofs.itr.settle.Statement.{statement}
 use Rattle.analysis.proofs.itr.settle.Tie as tie
 
 abbrev Inv-loop : tie.InvT-loop
-Inv-loop count chain urgency most earliest latest bounds₀ rounds₀ bounds rounds = Rounding (lent count chain urgency most earliest latest) bounds rounds
+Inv-loop count ends chain urgency most earliest latest bounds₀ rounds₀ bounds rounds = Rounding (lent count chain urgency most earliest latest) bounds rounds
 
 abbrev μ-loop : tie.MeasureT-loop
-μ-loop count chain urgency most earliest latest bounds₀ rounds₀ bounds rounds = itr (lent count chain urgency most earliest latest) .rounds - rounds
+μ-loop count ends chain urgency most earliest latest bounds₀ rounds₀ bounds rounds = itr (lent count chain urgency most earliest latest) .rounds - rounds
 
 -- the table of the lent columns
 abbrev table : tie.Start Inv-loop μ-loop → Table
@@ -31,23 +31,18 @@ loop-holds c = rounding-none (table (c .before)) (c .start .result) (c .start .e
 round-requires : tie.Need-round-requires Inv-loop μ-loop
 round-requires c κs = search needs
 
+add-taken : tie.Need-add-taken Inv-loop μ-loop
+add-taken c =
+    let s = c .before .before .before .before in
+    search (needs, rounding-below (table s) (c .before .before .loop .inv), rounds-small (table s) (s .pre .0))
+
 same-bounds-requires : tie.Need-same-bounds-requires Inv-loop μ-loop
 same-bounds-requires c κs = search needs
-
-add-t18 : tie.Need-add-t18 Inv-loop μ-loop
-add-t18 c =
-    let s = c .before .before .before .before .before .before .before .before in
-    search (needs, rounding-below (table s) (c .before .before .before .before .before .before .loop .inv), rounds-small (table s) (s .pre))
 
 returns : tie.Need-returns Inv-loop μ-loop
 returns c =
     let s = c .before .before .before .before .before .before .before .before in
     rounding-last (table s) (c .before .before .before .before .before .before .loop .inv) (c .before .before .before .before .round .result) (c .before .before .before .before .round .ensures) (sym (c .before .same-bounds .ensures) ∙ c .if1 .taken)
-
-add-rounds : tie.Need-add-rounds Inv-loop μ-loop
-add-rounds c =
-    let s = c .before .before .before .before .before .before .before .before in
-    search (needs, rounding-below (table s) (c .before .before .before .before .before .before .loop .inv), rounds-small (table s) (s .pre))
 
 loop-less : tie.Need-loop-less Inv-loop μ-loop
 loop-less c = omega (arith, rounding-below (table (c .before .before .before .before .before .before .before .before)) (c .before .before .before .before .before .before .loop .inv))
@@ -66,9 +61,8 @@ settle-spec =
     start-requires
     loop-holds
     round-requires
+    add-taken
     same-bounds-requires
-    add-t18
     returns
-    add-rounds
     loop-less
     loop-again)

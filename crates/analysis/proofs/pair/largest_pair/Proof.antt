@@ -16,11 +16,11 @@ use Rattle.analysis.proofs.pair.largest_pair.Statement.{statement}
 use Rattle.analysis.proofs.pair.largest_pair.Tie as tie
 
 abbrev Inv-loop : tie.InvT-loop
-Inv-loop count chain urgency most earliest latest bound j own to sum₀ low₀ best₀ k₀ sum low best k =
+Inv-loop count ends chain urgency most earliest latest bound j own to sum₀ low₀ best₀ k₀ sum low best k =
     Walked (lent count chain urgency most earliest latest) (overlap (lent count chain urgency most earliest latest) bound) maxTime j k sum low best
 
 abbrev μ-loop : tie.MeasureT-loop
-μ-loop count chain urgency most earliest latest bound j own to sum₀ low₀ best₀ k₀ sum low best k = k
+μ-loop count ends chain urgency most earliest latest bound j own to sum₀ low₀ best₀ k₀ sum low best k = k
 
 -- the table of the lent columns
 abbrev table : tie.Start Inv-loop μ-loop → Table
@@ -74,7 +74,7 @@ returns c =
     let s = c .before .before .before .before .before .before .before in
     let l = c .before .before .before .loop in
     let e = previous (c .before .before .before) (c .before .before .loop-test .taken) in
-    walked-stop (table s) (s .args .j) (keep s) maxTime (l .inv) e (s .pre .0 .ordered) (s .pre .1) (c .if1 .taken)
+    walked-stop (table s) (s .args .j) (keep s) maxTime (l .inv) e (s .pre .0 .ordered) (s .pre .2) (c .if1 .taken)
 
 mul-sum : tie.Need-mul-sum Inv-loop μ-loop
 mul-sum c = search needs
@@ -86,7 +86,7 @@ add-sum : tie.Need-add-sum Inv-loop μ-loop
 add-sum c =
     let s = c .before .before .before .before .before .before .before .before in
     let l = c .before .before .before .before .loop in
-    search (needs, s .pre .0 .mosts (l .k - 1) (omega (arith, l .inv .inside, s .pre .1, c .before .before .before .loop-test .taken)), l .inv .small, s .pre .0 .few)
+    search (needs, s .pre .0 .mosts (l .k - 1) (omega (arith, l .inv .inside, s .pre .2, c .before .before .before .loop-test .taken)), l .inv .small, s .pre .0 .few)
 
 mul-lower : tie.Need-mul-lower Inv-loop μ-loop
 mul-lower c = search needs
@@ -116,14 +116,14 @@ add-larger : tie.Need-add-larger Inv-loop μ-loop
 add-larger c =
     let s = c .before .before .before .before .before .before .before .before .before .before .before .before .before in
     let l = c .before .before .before .before .before .before .before .before .before .loop in
-    let i : l .k - 1 < s .args .count = omega (arith, l .inv .inside, s .pre .1, c .before .before .before .before .before .before .before .before .loop-test .taken) in
+    let i : l .k - 1 < s .args .count = omega (arith, l .inv .inside, s .pre .2, c .before .before .before .before .before .before .before .before .loop-test .taken) in
     search (needs, s .pre .0 .mosts (l .k - 1) i, s .pre .0 .late (l .k - 1) i, l .inv .small, s .pre .0 .few)
 
 add-larger-2 : tie.Need-add-larger-2 Inv-loop μ-loop
 add-larger-2 c =
     let s = c .before .before .before .before .before .before .before .before .before .before .before .before .before in
     let l = c .before .before .before .before .before .before .before .before .before .loop in
-    let i : l .k - 1 < s .args .count = omega (arith, l .inv .inside, s .pre .1, c .before .before .before .before .before .before .before .before .loop-test .taken) in
+    let i : l .k - 1 < s .args .count = omega (arith, l .inv .inside, s .pre .2, c .before .before .before .before .before .before .before .before .loop-test .taken) in
     let d = delay-small s _ _ _ (c .before .interference .result) (c .before .interference .ensures) in
     search (needs, s .pre .0 .mosts (l .k - 1) i, s .pre .0 .late (l .k - 1) i, l .inv .small, s .pre .0 .few, d)
 
@@ -138,7 +138,7 @@ loop-again c =
     let s = c .before .before .before .before .before .before .before .before .before .before .before .before .before .before in
     let l = c .before .before .before .before .before .before .before .before .before .before .loop in
     let e = previous (c .before .before .before .before .before .before .before .before .before .before) (c .before .before .before .before .before .before .before .before .before .loop-test .taken) in
-    let i : l .k - 1 < s .args .count = omega (arith, l .inv .inside, s .pre .1, c .before .before .before .before .before .before .before .before .before .loop-test .taken) in
+    let i : l .k - 1 < s .args .count = omega (arith, l .inv .inside, s .pre .2, c .before .before .before .before .before .before .before .before .before .loop-test .taken) in
     let low = walked-low (table s) (s .args .j) (keep s) maxTime (l .inv) e (c .before .before .before .before .lower .result) (c .before .before .before .before .lower .ensures) in
     walked-next (table s) (s .args .j) (keep s) maxTime (l .inv) e (c .before .before .before .before .lower .result) _ (c .larger .result) (c .before .before .before .before .before .before .before .if1 .left) (s .pre .0 .mosts (l .k - 1) i) (c .before .before .before .before .lower .ensures)
     (pair-is (s .args .count) (s .args .chain .now) (s .args .urgency .now) (s .args .most .now) (s .args .earliest .now) (s .args .latest .now) (s .args .bound .now) (l .k - 1) (s .args .j) _ _ _ (omega (arith, l .inv .inside)) (walked-sum (table s) (s .args .j) (keep s) maxTime (l .inv) e) low (c .before .before .interference .ensures))

@@ -13,11 +13,11 @@ use Rattle.analysis.proofs.round.round.Statement.{statement}
 use Rattle.analysis.proofs.round.round.Tie as tie
 
 abbrev Inv-loop : tie.InvT-loop
-Inv-loop count chain urgency most earliest latest bound bounds₀ j₀ bounds j =
+Inv-loop count ends chain urgency most earliest latest bound bounds₀ j₀ bounds j =
     (j ≤ count) × (bounds ≡ column j (roundAt (lent count chain urgency most earliest latest) bound))
 
 abbrev μ-loop : tie.MeasureT-loop
-μ-loop count chain urgency most earliest latest bound bounds₀ j₀ bounds j = count - j
+μ-loop count ends chain urgency most earliest latest bound bounds₀ j₀ bounds j = count - j
 
 -- the table of the lent columns
 abbrev table : tie.Start Inv-loop μ-loop → Table
@@ -46,7 +46,7 @@ loop-again c =
     let s = c .before .before .before in
     let l = c .before .before .loop in
     let h = c .before .loop-test .taken in
-    (omega arith, filled-next maxJobs 0 _ (l .j) (l .bounds) _ (omega (arith, s .pre .few)) (l .inv .1) (c .largest-pair .ensures))
+    (omega arith, filled-next maxJobs 0 _ (l .j) (l .bounds) _ (omega (arith, s .pre .0 .few)) (l .inv .1) (c .largest-pair .ensures))
 
 returns : tie.Need-returns Inv-loop μ-loop
 unfolding round cjaWith

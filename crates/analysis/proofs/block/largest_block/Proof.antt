@@ -1,0 +1,110 @@
+-- `largest_block` answers `largestOver`. The loop's invariant: the blocks up to place i are behind it. Assumes nothing.
+use Prim.Native.Nat.{ℕ, _-_, _≤_, _<_}
+use mathlib.Core.Path.{ap, _∙_}
+use native.Mathlib.Omega.{arith}
+use lib.ListN.{getD}
+use borrow.Author.Needs.{needs}
+use Rattle.jobs.specs.Limits.{maxTime}
+use Rattle.analysis.specs.Kernel.{spanned, opened}
+use Rattle.analysis.proofs.Weights.{weight-le}
+use Rattle.analysis.proofs.Stretches.{Blocked, blocked-none, blocked-small, blocked-next, blocked-all}
+use Rattle.analysis.proofs.block.largest_block.Statement.{statement}
+use Rattle.analysis.proofs.block.largest_block.Tie as tie
+
+abbrev Inv-loop : tie.InvT-loop
+Inv-loop first end urgency most earliest bound target from to block₀ largest₀ i₀ block largest i =
+    Blocked (λ u. getD urgency u 0) target (spanned most earliest bound from to) first end i block largest
+
+abbrev μ-loop : tie.MeasureT-loop
+μ-loop first end urgency most earliest bound target from to block₀ largest₀ i₀ block largest i = end - i
+
+-- what each job counts, at most its most time
+abbrev counts : tie.Start Inv-loop μ-loop → ℕ → ℕ
+counts s = spanned (s .args .most .now) (s .args .earliest .now) (s .args .bound .now) (s .args .from) (s .args .to)
+
+counts-limit : (s : tie.Start Inv-loop μ-loop) (i : ℕ) → i < s .args .end → counts s i ≤ maxTime
+counts-limit s i l = omega (arith, s .pre .2 i l, weight-le (s .args .from) (s .args .to) (getD (s .args .most .now) i 0) (getD (s .args .earliest .now) i 0) (getD (s .args .bound .now) i 0))
+
+loop-holds : tie.Need-loop-holds Inv-loop μ-loop
+loop-holds c = blocked-none _ (c .args .target) (counts c) (c .args .first) (c .args .end) (c .pre .0)
+
+mul-weight : tie.Need-mul-weight Inv-loop μ-loop
+mul-weight c = search needs
+
+element-copy-out-weight : tie.Need-element-copy-out-weight Inv-loop μ-loop
+element-copy-out-weight c = search needs
+
+mul-weight-2 : tie.Need-mul-weight-2 Inv-loop μ-loop
+mul-weight-2 c = search needs
+
+element-copy-out-weight-2 : tie.Need-element-copy-out-weight-2 Inv-loop μ-loop
+element-copy-out-weight-2 c = search needs
+
+mul-weight-3 : tie.Need-mul-weight-3 Inv-loop μ-loop
+mul-weight-3 c = search needs
+
+element-copy-out-weight-3 : tie.Need-element-copy-out-weight-3 Inv-loop μ-loop
+element-copy-out-weight-3 c = search needs
+
+weight-requires : tie.Need-weight-requires Inv-loop μ-loop
+weight-requires c κs = search needs
+
+mul-opened : tie.Need-mul-opened Inv-loop μ-loop
+mul-opened c = search needs
+
+element-copy-out-opened : tie.Need-element-copy-out-opened Inv-loop μ-loop
+element-copy-out-opened c = search needs
+
+opened-requires : tie.Need-opened-requires Inv-loop μ-loop
+opened-requires c κs =
+    let s = c .before .before .before .before .before .before .before in
+    let l = c .before .before .before .before .before .before .loop in
+    let h = c .before .before .before .before .before .loop-test .taken in
+    let small = blocked-small _ (s .args .target) (counts s) (s .args .first) (s .args .end) (l .inv) maxTime (counts-limit s) in
+    omega (arith, s .pre .1, l .inv .inside, small, counts-limit s (l .i) h, c .before .weight .ensures)
+
+larger-requires : tie.Need-larger-requires Inv-loop μ-loop
+larger-requires c κs = search needs
+
+add-i : tie.Need-add-i Inv-loop μ-loop
+add-i c = search needs
+
+loop-less : tie.Need-loop-less Inv-loop μ-loop
+loop-less c = search needs
+
+loop-again : tie.Need-loop-again Inv-loop μ-loop
+loop-again c =
+    let s = c .before .before .before .before .before .before .before .before .before in
+    let l = c .before .before .before .before .before .before .before .before .loop in
+    let h = c .before .before .before .before .before .before .before .loop-test .taken in
+    blocked-next _ (s .args .target) (counts s) (s .args .first) (s .args .end) (l .inv) h _ _
+    (c .before .opened .ensures ∙ ap (opened (l .block) (s .args .target) (getD (s .args .urgency .now) (l .i) 0)) (c .before .before .before .weight .ensures)) (c .larger .ensures)
+
+returns : tie.Need-returns Inv-loop μ-loop
+returns c =
+    let s = c .before .before in
+    let l = c .before .loop in
+    blocked-all _ (s .args .target) (counts s) (s .args .first) (s .args .end) (l .inv) (omega (arith, c .loop-test .left))
+
+pub largest-block-spec : {M : Type 1} → statement M
+largest-block-spec =
+    tie.close
+    (tie.spec
+    Inv-loop
+    μ-loop
+    loop-holds
+    mul-weight
+    element-copy-out-weight
+    mul-weight-2
+    element-copy-out-weight-2
+    mul-weight-3
+    element-copy-out-weight-3
+    weight-requires
+    mul-opened
+    element-copy-out-opened
+    opened-requires
+    larger-requires
+    add-i
+    loop-less
+    loop-again
+    returns)

@@ -1,0 +1,81 @@
+// The largest block of one chain.
+ghost use mathlib.Core.Path.{_≡_};
+ghost use mathlib.Core.Bool.{cond};
+ghost use Prim.Native.Nat.{ℕ, _+_, _-_, _^_, _≤_, _<_};
+ghost use lib.Dec.{eqb};
+ghost use lib.ListN.{getD};
+ghost use Rattle.jobs.specs.Limits.{maxJobs, maxTime};
+ghost use Rattle.analysis.specs.Kernel.{weightOf, spanned, opened as Kernel·opened, largestOver};
+use crate::number::larger;
+use jobs::set::JobSet;
+
+// What a job counts in a pair: its most time where the spans overlap, else nothing.
+fn weight(from: u64, to: u64, most: u64, release: u64, bound: u64) -> u64
+    ensures { λ r. ⌜ r ≡ weightOf from to most release bound ⌝ }
+{
+    if (from < bound) & (release < to) {
+        return most;
+    }
+    0
+}
+
+// The open block after one more job.
+fn opened(block: u64, target: u64, urgency: u64, weight: u64) -> u64
+    requires { ⌜ block + weight < 2 ^ 64 ⌝ }
+    ensures { λ r. ⌜ r ≡ Kernel·opened block target urgency weight ⌝ }
+{
+    if urgency < target {
+        return 0;
+    }
+    block + weight
+}
+
+// The largest block over the places from `first` to before `end`, all of one chain.
+fn largest_block<'a, 'b>(
+    first: usize,
+    end: usize,
+    urgency: &'a [u64; JobSet::MAX_JOBS],
+    most: &'a [u64; JobSet::MAX_JOBS],
+    earliest: &'a [u64; JobSet::MAX_JOBS],
+    bound: &'b [u64; JobSet::MAX_JOBS],
+    target: u64,
+    from: u64,
+    to: u64,
+) -> u64
+    requires { ⌜ (first ≤ end) × (end ≤ maxJobs) × ((i : ℕ) → i < end → getD (now most) i 0 ≤ maxTime) ⌝ }
+    ensures { λ r. ⌜ r ≡ largestOver (λ i. getD (now (urgency .entry)) i 0) target (spanned (now (most .entry)) (now (earliest .entry)) (now (bound .entry)) from to) first (end - first) ⌝ }
+{
+    let mut block: u64 = 0;
+    let mut largest: u64 = 0;
+    let mut i = first;
+    while i < end {
+        let counts = weight(from, to, most[i], earliest[i], bound[i]);
+        block = opened(block, target, urgency[i], counts);
+        largest = larger(largest, block);
+        i += 1;
+    }
+    largest
+}
+
+// What a chain adds to the interference on a target of chain `own`: its largest block, and nothing where it is that chain.
+pub(crate) fn share<'a, 'b>(
+    own: u64,
+    chain: u64,
+    first: usize,
+    end: usize,
+    urgency: &'a [u64; JobSet::MAX_JOBS],
+    most: &'a [u64; JobSet::MAX_JOBS],
+    earliest: &'a [u64; JobSet::MAX_JOBS],
+    bound: &'b [u64; JobSet::MAX_JOBS],
+    target: u64,
+    from: u64,
+    to: u64,
+) -> u64
+    requires { ⌜ (first ≤ end) × (end ≤ maxJobs) × ((i : ℕ) → i < end → getD (now most) i 0 ≤ maxTime) ⌝ }
+    ensures { λ r. ⌜ r ≡ cond (eqb chain own) 0 (largestOver (λ i. getD (now (urgency .entry)) i 0) target (spanned (now (most .entry)) (now (earliest .entry)) (now (bound .entry)) from to) first (end - first)) ⌝ }
+{
+    if chain == own {
+        return 0;
+    }
+    largest_block(first, end, urgency, most, earliest, bound, target, from, to)
+}
