@@ -1,8 +1,8 @@
--- Where chains end, found by a walk back over the table.
---   Ending   what the walk holds at place i: the end of each chain from there on, and of the run of equal chains that begins at i
+-- Where chains end, found by a walk over a table whose chains come in order.
+--   Heads   what the walk holds at place i: the first place of the chain that it is in, and the ends so far
 -- Assumes nothing.
-use Prim.Native.Nat.{ℕ, suc, _+_, _-_, _≤_, _<_}
-use mathlib.Core.Path.{_≡_, sym, subst, _∙_}
+use Prim.Native.Nat.{ℕ, zero, suc, _+_, _≤_, _<_}
+use mathlib.Core.Path.{_≡_, refl, sym, ap, subst, _∙_}
 use mathlib.Core.Logic.{_≢_}
 use mathlib.Core.Bool.{cond}
 use mathlib.Core.List.{List}
@@ -12,77 +12,96 @@ use lib.Dec.{eqb}
 use lib.ListN.{length, getD, set, length-set}
 use lib.Seq.{getD-set-same, getD-set-other}
 use borrow.Author.Tests.{eq-eqb, ne-eqb}
-use Rattle.laws.proofs.Tests.{by-equal}
-use Rattle.analysis.specs.Kernel.{EndsAt}
+use Rattle.laws.proofs.Tests.{by-test, by-order, by-equal}
+use Rattle.analysis.specs.Kernel.{First, EndsAt}
+use Rattle.analysis.proofs.Prior.{prior}
 
-pub record Ending (count : ℕ) (chain : ℕ → ℕ) (i last end : ℕ) (ends : List ℕ) : Type 0 where
-  pub inside : i ≤ count
-  pub room : count ≤ length ends
-  pub after : i ≤ end
-  pub within : end ≤ count
-  pub some : i < count → i < end
-  pub same : (u : ℕ) → i ≤ u → u < end → chain u ≡ last
-  pub other : end < count → chain end ≢ last
-  pub known : (u : ℕ) → i ≤ u → u < count → EndsAt count chain u (getD ends u 0)
+pub record Heads (chain : ℕ → ℕ) (i first : ℕ) (ends : List ℕ) : Type 0 where
+  pub within : first ≤ i
+  pub begun : 0 < i → first < i
+  pub run : (v : ℕ) → first ≤ v → v < i → chain v ≡ chain first
+  pub head : First chain first
+  pub known : (f : ℕ) → f < i → First chain f → EndsAt i chain f (getD ends f 0)
 
-module _ (count : ℕ) (chain : ℕ → ℕ) where
-  pub ending-none : (last : ℕ) (ends : List ℕ) → count ≤ length ends → Ending count chain count last count ends
-  ending-none last ends room =
+module _ (chain : ℕ → ℕ) where
+  pub heads-none : (ends : List ℕ) → Heads chain 0 0 ends
+  heads-none ends =
       record {
-        inside = omega arith;
-        room = room;
-        after = omega arith;
         within = omega arith;
-        some = λ l. absurd (omega arith);
-        same = λ u a b. absurd (omega arith);
-        other = λ l. absurd (omega arith);
-        known = λ u a b. absurd (omega arith);
+        begun = λ l. l;
+        run = λ v a b. absurd (omega arith);
+        head = λ v l. absurd (omega arith);
+        known = λ f l. absurd (omega arith);
       }
 
-  module _ (i : ℕ) {last end : ℕ} {ends : List ℕ} (h : Ending count chain (suc i) last end ends) where
-    -- the end of the chain of the job at i, once it is written
-    ending-at : (e : ℕ) → EndsAt count chain i e → Ending count chain i (chain i) e (set ends i e)
-    ending-at e at =
+  -- two first places of one chain are the same
+  first-same : (f g : ℕ) → First chain f → First chain g → chain f ≡ chain g → f ≡ g
+  first-same f g hf hg e = by-order f g (λ l. by-equal f g (λ q. q) (λ ne. absurd (hg f (omega arith) e))) (λ l. absurd (hf g l (sym e)))
+
+  module _ (i first : ℕ) (ends : List ℕ) (room : i < length ends) (h : Heads chain i first ends) where
+    -- the chain goes on
+    heads-on : 0 < i → chain i ≡ chain first → Heads chain (suc i) first (set ends first (suc i))
+    heads-on some same =
+        let all : (v : ℕ) → first ≤ v → v < suc i → chain v ≡ chain first = (λ v a b. by-equal v i (λ q. ap chain q ∙ same) (λ ne. h .run v a (omega arith))) in
         record {
-          inside = omega (arith, h .inside);
-          room = rw (length-set ends i e) (h .room);
-          after = omega (arith, at .later);
-          within = at .within;
-          some = λ l. at .later;
-          same = at .same;
-          other = at .other;
-          known = λ u a b.
-              by-equal u i
-              (λ q. rw (q, getD-set-same ends i e 0 (omega (arith, h .inside, h .room))) at)
-              (λ ne. rw (getD-set-other ends i u e 0 ne) (h .known u (omega arith) b));
+          within = omega (arith, h .within);
+          begun = λ l. omega (arith, h .within);
+          run = all;
+          head = h .head;
+          known = λ f l ff.
+              by-equal f first
+              (λ q.
+              rw (q, getD-set-same ends first (suc i) 0 (omega (arith, h .within)))
+              (record { later = omega (arith, h .within); within = omega arith; same = all; other = λ el. absurd (omega arith) }))
+              (λ ne.
+              let other : chain f ≢ chain first = (λ q. ne (first-same f first ff (h .head) q)) in
+              let before : f < i = by-equal f i (λ q. absurd (other (ap chain q ∙ same))) (λ d. omega arith) in
+              let at = h .known f before ff in
+              rw (getD-set-other ends first f (suc i) 0 ne)
+              (record { later = at .later; within = omega (arith, at .within); same = at .same; other = λ el q. by-equal (getD ends f 0) i (λ z. other (sym q ∙ ap chain z ∙ same)) (λ d. at .other (omega (arith, at .within)) q) }));
         }
 
-    ending-on : chain i ≡ last → Ending count chain i (chain i) end (set ends i end)
-    ending-on q =
-        ending-at end
-        (record {
-          later = omega (arith, h .after);
-          within = h .within;
-          same = λ u a b. by-equal u i (λ e. rw e) (λ ne. h .same u (omega arith) b ∙ sym q);
-          other = λ l e. h .other l (e ∙ q);
-        })
+    -- another chain begins
+    heads-new : First chain i → Heads chain (suc i) i (set ends i (suc i))
+    heads-new fi =
+        record {
+          within = omega arith;
+          begun = λ l. omega arith;
+          run = λ v a b. ap chain (omega arith);
+          head = fi;
+          known = λ f l ff.
+              by-equal f i
+              (λ q.
+              rw (q, getD-set-same ends i (suc i) 0 room)
+              (record { later = omega arith; within = omega arith; same = λ u a b. ap chain (omega arith); other = λ el. absurd (omega arith) }))
+              (λ ne.
+              let at = h .known f (omega arith) ff in
+              rw (getD-set-other ends i f (suc i) 0 ne)
+              (record { later = at .later; within = omega (arith, at .within); same = at .same; other = λ el q. by-equal (getD ends f 0) i (λ z. fi f (omega arith) (sym q ∙ ap chain z)) (λ d. at .other (omega (arith, at .within)) q) }));
+        }
 
-    ending-new : chain i ≢ last → Ending count chain i (chain i) (suc i) (set ends i (suc i))
-    ending-new ne =
-        ending-at (suc i)
-        (record {
-          later = omega arith;
-          within = h .inside;
-          same = λ u a b. by-equal u i (λ e. rw e) (λ d. absurd (omega arith));
-          other = λ l e. ne (sym e ∙ h .same (suc i) (omega arith) (h .some l));
-        })
+  heads-step : (i first : ℕ) (ends : List ℕ) → i < length ends → Heads chain i first ends → ((v w : ℕ) → v ≤ w → w ≤ i → chain v ≤ chain w)
+      → Heads chain (suc i) (cond (eqb (prior chain i) (chain i)) first i) (set ends (cond (eqb (prior chain i) (chain i)) first i) (suc i))
+  unfolding prior
+  heads-step zero first ends room h mono =
+      let none : first ≡ 0 = omega (arith, h .within) in
+      let either : cond (eqb 0 (chain 0)) first 0 ≡ 0 = by-test (eqb 0 (chain 0)) (λ b. rw b none) (λ b. rw b) in
+      rw either (heads-new 0 first ends room h (λ v l. absurd (omega arith)))
+  heads-step (suc k) first ends room h mono =
+      by-equal (chain k) (chain (suc k))
+      (λ q. rw (eq-eqb (chain k) (chain (suc k)) q) (heads-on (suc k) first ends room h (omega arith) (sym q ∙ h .run k (omega (arith, h .begun (omega arith))) (omega arith))))
+      (λ ne. rw (ne-eqb (chain k) (chain (suc k)) ne) (heads-new (suc k) first ends room h (λ v l q. ne (omega (arith, mono v k (omega arith) (omega arith), mono k (suc k) (omega arith) (omega arith), q)))))
 
-    ending-either : (e : ℕ) → e ≡ cond (eqb (chain i) last) end (i + 1) → Ending count chain i (chain i) e (set ends i e)
-    ending-either e q =
-        by-equal (chain i) last
-        (λ s. rw (q, eq-eqb (chain i) last s) (ending-on s))
-        (λ ne. rw (q, ne-eqb (chain i) last ne, add-one) (ending-new ne))
+  pub heads-next : {i first : ℕ} {ends : List ℕ} → i < length ends → Heads chain i first ends → ((v w : ℕ) → v ≤ w → w ≤ i → chain v ≤ chain w)
+      → (next : ℕ) → next ≡ cond (eqb (prior chain i) (chain i)) first i → Heads chain (i + 1) next (set ends next (i + 1))
+  heads-next {i} {first} {ends} room h mono next e = rw (e, add-one) (heads-step i first ends room h mono)
 
-  pub ending-next : {k last end : ℕ} {ends : List ℕ} → Ending count chain k last end ends → k ≡ suc (k - 1) → (e : ℕ) → e ≡ cond (eqb (chain (k - 1)) last) end (k - 1 + 1)
-      → Ending count chain (k - 1) (chain (k - 1)) e (set ends (k - 1) e)
-  ending-next {k} {last} {end} {ends} h q e = ending-either (k - 1) (subst (λ (n : ℕ). Ending count chain n last end ends) q h) e
+-- what holds of where a chain ends holds of chains that are the same up to the count
+pub ends-same : {chain other : ℕ → ℕ} {n i e : ℕ} → ((u : ℕ) → u < n → other u ≡ chain u) → i < n → EndsAt n chain i e → EndsAt n other i e
+ends-same {i = i} {e = e} h l at =
+    record {
+      later = at .later;
+      within = at .within;
+      same = λ u a b. h u (omega (arith, at .within)) ∙ at .same u a b ∙ sym (h i l);
+      other = λ el q. at .other el (sym (h e el) ∙ q ∙ h i l);
+    }

@@ -3,27 +3,33 @@
 -- Assumes nothing.
 use Prim.Native.Nat.{ℕ, _+_, _≤_, _<_, max}
 use mathlib.Core.Path.{_≡_, sym, ap, _∙_}
+use mathlib.Core.Bool.{cond}
 use mathlib.Core.List.{List}
 use native.Mathlib.Omega.{arith}
-use lib.ListN.{length, set, replicate}
-use Rattle.laws.proofs.Filling.{filled-none, filled-next}
+use lib.Dec.{eqb}
+use lib.ListN.{length, getD, set, replicate, length-set, length-replicate}
+use Rattle.laws.proofs.Filling.{filled-none, filled-next, filled-at}
 use Rattle.jobs.specs.declared.job.Job.{Job}
 use Rattle.jobs.specs.Limits.{maxJobs}
 use Rattle.jobs.specs.Accepted.{jobAt}
 use Rattle.theory.specs.Table.{Table}
 use Rattle.theory.specs.Releases.{effectiveEarliest, effectiveLatest, given, tableOf}
+use Rattle.theory.proofs.WellFormed.{Ordered, chain-le}
 use Rattle.analysis.specs.declared.columns.Columns.{Columns}
-use Rattle.analysis.specs.Kernel.{notBefore, columnsOf}
+use Rattle.analysis.specs.Kernel.{notBefore, columnsOf, Ended}
 use Rattle.analysis.proofs.Prior.{prior, prior-none, prior-next}
 use Rattle.analysis.proofs.Predecessors.{release-by}
+use Rattle.analysis.proofs.Endings.{Heads, heads-none, heads-next, ends-same}
 
 -- when the job after a place is ready at the earliest
 abbrev pub readyAfter : List Job → ℕ → ℕ
 readyAfter js v = effectiveEarliest (given js) v + jobAt js v .least
 
-pub record Gathered (js : List Job) (i last ready : ℕ) (columns : Columns) : Type 0 where
+pub record Gathered (js : List Job) (i last ready first : ℕ) (columns : Columns) : Type 0 where
   pub inside : i ≤ length js
-  pub are : columns ≡ columnsOf (tableOf js) i
+  pub are : columns ≡ columnsOf (tableOf js) i (columns .ends)
+  pub room : length (columns .ends) ≡ maxJobs
+  pub heads : Heads (tableOf js .chain) i first (columns .ends)
   pub last-is : last ≡ prior (tableOf js .chain) i
   pub ready-is : ready ≡ prior (readyAfter js) i
 
@@ -31,6 +37,7 @@ pub record Gathered (js : List Job) (i last ready : ℕ) (columns : Columns) : T
 abbrev pub noColumns : Columns
 noColumns =
     record {
+      ends = replicate maxJobs 0;
       chain = replicate maxJobs 0;
       urgency = replicate maxJobs 0;
       most = replicate maxJobs 0;
@@ -38,9 +45,10 @@ noColumns =
       latest = replicate maxJobs 0;
     }
 
-abbrev pub stored : Columns → ℕ → Job → ℕ → ℕ → Columns
-stored columns i job earliest latest =
+abbrev pub stored : Columns → ℕ → Job → ℕ → ℕ → ℕ → Columns
+stored columns i job earliest latest first =
     record {
+      ends = set (columns .ends) first (i + 1);
       chain = set (columns .chain) i (job .chain);
       urgency = set (columns .urgency) i (job .priority);
       most = set (columns .most) i (job .most);
@@ -52,11 +60,12 @@ module _ (js : List Job) where
   abbrev t : Table
   t = tableOf js
 
-  none-gathered : noColumns ≡ columnsOf t 0
+  none-gathered : noColumns ≡ columnsOf t 0 (noColumns .ends)
   unfolding columnsOf
   none-gathered =
       λ x.
       record {
+        ends = replicate maxJobs 0;
         chain = filled-none maxJobs 0 (t .chain) x;
         urgency = filled-none maxJobs 0 (t .urgency) x;
         most = filled-none maxJobs 0 (t .most) x;
@@ -64,24 +73,31 @@ module _ (js : List Job) where
         latest = filled-none maxJobs 0 (t .latest) x;
       }
 
-  pub gathered-none : Gathered js 0 0 0 noColumns
+  pub gathered-none : Gathered js 0 0 0 0 noColumns
   gathered-none =
-      record { inside = omega arith; are = none-gathered; last-is = sym (prior-none (t .chain)); ready-is = sym (prior-none (readyAfter js)) }
+      record {
+        inside = omega arith;
+        are = none-gathered;
+        room = length-replicate {A = ℕ} maxJobs 0;
+        heads = heads-none (t .chain) (noColumns .ends);
+        last-is = sym (prior-none (t .chain));
+        ready-is = sym (prior-none (readyAfter js));
+      }
 
   module _ (few : length js ≤ maxJobs) (i : ℕ) (l : i < length js) (job : Job) (here : job ≡ jobAt js i) where
-    next-gathered : (columns : Columns) (earliest latest : ℕ) → columns ≡ columnsOf t i → earliest ≡ t .earliest i → latest ≡ t .latest i
-        → stored columns i job earliest latest ≡ columnsOf t (i + 1)
+    next-gathered : (columns : Columns) (earliest latest first : ℕ) → columns ≡ columnsOf t i (columns .ends) → earliest ≡ t .earliest i → latest ≡ t .latest i
+        → stored columns i job earliest latest first ≡ columnsOf t (i + 1) (set (columns .ends) first (i + 1))
     unfolding columnsOf
-    next-gathered columns earliest latest e ee el =
+    next-gathered columns earliest latest first e ee el =
         let room : i < maxJobs = omega arith in
         let chain = filled-next maxJobs 0 (t .chain) i (columns .chain) (job .chain) room (ap (λ (q : Columns). q .chain) e) (ap (λ (j : Job). j .chain) here) in
         let urgency = filled-next maxJobs 0 (t .urgency) i (columns .urgency) (job .priority) room (ap (λ (q : Columns). q .urgency) e) (ap (λ (j : Job). j .priority) here) in
         let most = filled-next maxJobs 0 (t .most) i (columns .most) (job .most) room (ap (λ (q : Columns). q .most) e) (ap (λ (j : Job). j .most) here) in
         let early = filled-next maxJobs 0 (t .earliest) i (columns .earliest) earliest room (ap (λ (q : Columns). q .earliest) e) ee in
         let late = filled-next maxJobs 0 (t .latest) i (columns .latest) latest room (ap (λ (q : Columns). q .latest) e) el in
-        λ x. record { chain = chain x; urgency = urgency x; most = most x; earliest = early x; latest = late x }
+        λ x. record { ends = set (columns .ends) first (i + 1); chain = chain x; urgency = urgency x; most = most x; earliest = early x; latest = late x }
 
-    module _ {last ready : ℕ} {columns : Columns} (h : Gathered js i last ready columns) (earliest : ℕ) (e : earliest ≡ notBefore last (job .chain) (job .release) ready) where
+    module _ {last ready first : ℕ} {columns : Columns} (h : Gathered js i last ready first columns) (earliest : ℕ) (e : earliest ≡ notBefore last (job .chain) (job .release) ready) where
       pub gathered-earliest : earliest ≡ t .earliest i
       gathered-earliest = e ∙ rw (here, h .last-is, h .ready-is) (sym (release-by (given js) i))
 
@@ -89,15 +105,31 @@ module _ (js : List Job) where
       unfolding effectiveLatest
       latest-is latest q = omega (arith, gathered-earliest, ap (λ (j : Job). j .release) here)
 
-      pub gathered-next : (latest : ℕ) → latest ≡ max (job .release) earliest
-          → Gathered js (i + 1) (job .chain) (earliest + job .least) (stored columns i job earliest latest)
-      gathered-next latest q =
+      pub gathered-next : Ordered t → (latest : ℕ) → latest ≡ max (job .release) earliest → (next : ℕ) → next ≡ cond (eqb last (job .chain)) first i
+          → Gathered js (i + 1) (job .chain) (earliest + job .least) next (stored columns i job earliest latest next)
+      gathered-next o latest q next n =
           record {
             inside = omega arith;
-            are = next-gathered columns earliest latest (h .are) gathered-earliest (latest-is latest q);
+            are = next-gathered columns earliest latest next (h .are) gathered-earliest (latest-is latest q);
+            room = length-set (columns .ends) next (i + 1) ∙ h .room;
+            heads = heads-next (t .chain) (omega (arith, h .room)) (h .heads) (λ v w vw wi. chain-le t o v w vw (omega arith)) next (n ∙ rw (h .last-is, here));
             last-is = ap (λ (j : Job). j .chain) here ∙ sym (prior-next (t .chain) i);
             ready-is = ready-is ∙ sym (prior-next (readyAfter js) i);
           }
         where
           ready-is : earliest + job .least ≡ readyAfter js i
           ready-is = omega (arith, gathered-earliest, ap (λ (j : Job). j .least) here)
+
+  -- all jobs are gathered
+  module _ (i n : ℕ) (all : i ≡ n) {last ready first : ℕ} {columns : Columns} (h : Gathered js i last ready first columns) where
+    pub gathered-all : columns ≡ columnsOf t n (columns .ends)
+    gathered-all = h .are ∙ ap (λ (k : ℕ). columnsOf t k (columns .ends)) all
+
+    chain-at : (u : ℕ) → u < i → getD (columns .chain) u 0 ≡ t .chain u
+    unfolding columnsOf
+    chain-at u l = ap (λ (q : Columns). getD (q .chain) u 0) (h .are) ∙ filled-at maxJobs 0 (t .chain) i u l
+
+    pub gathered-ended : Ended n (columns .chain) (columns .ends)
+    gathered-ended =
+        rw (sym all)
+        (λ u l ff. ends-same (λ v vl. chain-at v vl) l (h .heads .known u l (λ v vl q. ff v vl (chain-at v (omega arith) ∙ q ∙ sym (chain-at u l)))))

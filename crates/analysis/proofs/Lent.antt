@@ -36,8 +36,8 @@ pub record Lends (set : JobSet) (columns : Columns) : Type 0 where
   pub by-cja : cja (lentBy (set .count) columns) ≡ cja (tableOf (jobsOf set))
   pub by-itr : itr (lentBy (set .count) columns) ≡ itr (tableOf (jobsOf set))
 
-module _ (t : Table) (n : ℕ) (e : n ≡ t .count) where
-  columns-agree : Agree (lentBy n (columnsOf t n)) (bare t)
+module _ (t : Table) (n : ℕ) (ends : List ℕ) (e : n ≡ t .count) where
+  columns-agree : Agree (lentBy n (columnsOf t n ends)) (bare t)
   unfolding columnsOf
   columns-agree =
       let at : (f : ℕ → ℕ) (i : ℕ) → i < n → _ = (λ f i l. filled-at maxJobs 0 f n i l) in
@@ -71,23 +71,23 @@ accepted-fit js ok =
       late = accepted-latest js ok;
     }
 
-pub lends : (set : JobSet) → checkOf (jobsOf set) ≡ Passed → (columns : Columns) → columns ≡ columnsOf (tableOf (jobsOf set)) (set .count)
+pub lends : (set : JobSet) → checkOf (jobsOf set) ≡ Passed → (columns : Columns) → columns ≡ columnsOf (tableOf (jobsOf set)) (set .count) (columns .ends)
     → Lends set columns
 lends set passed columns e = subst (Lends set) (sym e) whole
   where
     ok : Accepted (jobsOf set)
     ok = accepted (jobsOf set) passed
 
-    agree : Agree (lentBy (set .count) (columnsOf (tableOf (jobsOf set)) (set .count))) (bare (tableOf (jobsOf set)))
-    agree = columns-agree (tableOf (jobsOf set)) (set .count) (sym (length-jobs set))
+    agree : Agree (lentBy (set .count) (columnsOf (tableOf (jobsOf set)) (set .count) (columns .ends))) (bare (tableOf (jobsOf set)))
+    agree = columns-agree (tableOf (jobsOf set)) (set .count) (columns .ends) (sym (length-jobs set))
 
-    same : SameAnswers (lentBy (set .count) (columnsOf (tableOf (jobsOf set)) (set .count))) (bare (tableOf (jobsOf set)))
+    same : SameAnswers (lentBy (set .count) (columnsOf (tableOf (jobsOf set)) (set .count) (columns .ends))) (bare (tableOf (jobsOf set)))
     same = agree-same agree (accepted-ordered (jobsOf set) ok)
 
-    whole : Lends set (columnsOf (tableOf (jobsOf set)) (set .count))
+    whole : Lends set (columnsOf (tableOf (jobsOf set)) (set .count) (columns .ends))
     whole =
         record {
-          fit = agree-fit (tableOf (jobsOf set)) (set .count) (sym (length-jobs set)) agree (accepted-fit (jobsOf set) ok);
+          fit = agree-fit (tableOf (jobsOf set)) (set .count) (columns .ends) (sym (length-jobs set)) agree (accepted-fit (jobsOf set) ok);
           by-ert = same .by-ert ∙ ert-bare (tableOf (jobsOf set));
           by-cja = same .by-cja ∙ cja-bare (tableOf (jobsOf set));
           by-itr = same .by-itr ∙ itr-bare (tableOf (jobsOf set));

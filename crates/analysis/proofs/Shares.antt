@@ -19,7 +19,7 @@ use Rattle.theory.specs.Interference.{largestBlock, chains, interference}
 use Rattle.theory.proofs.WellFormed.{Ordered, chain-le}
 use Rattle.theory.proofs.Chains.{chain-most}
 use Rattle.theory.proofs.Blocks.{largest-rest}
-use Rattle.analysis.specs.Kernel.{largestOver, EndsAt}
+use Rattle.analysis.specs.Kernel.{largestOver, First, EndsAt}
 use Rattle.analysis.proofs.Stretches.{largest-small, largest-over}
 
 unfoldable pub share : Table → ℕ → ℕ → (ℕ → ℕ) → ℕ → ℕ → ℕ
@@ -31,7 +31,7 @@ sharesOf t own target w n = sumBelow (suc (chains t)) (share t own target w n)
 -- no weight is beyond m
 pub record Shared (t : Table) (own target : ℕ) (w : ℕ → ℕ) (m i total : ℕ) : Type 0 where
   pub inside : i ≤ t .count
-  pub first : i < t .count → (v : ℕ) → v < i → t .chain v ≢ t .chain i
+  pub first : i < t .count → First (t .chain) i
   pub sum : total ≡ sharesOf t own target w i
   pub small : total ≤ i * m
 
@@ -100,7 +100,7 @@ module _ (t : Table) (own target : ℕ) (w : ℕ → ℕ) where
           (omega (arith, q, share-none i (t .chain i) no-block))
           (λ c cl ne. share-same e i c (others-stay c ne))
 
-      first-next : e < t .count → (v : ℕ) → v < e → t .chain v ≢ t .chain e
+      first-next : e < t .count → First (t .chain) e
       first-next el v vl q =
           let last : t .chain (e - 1) ≡ t .chain i = ends .same (e - 1) (omega (arith, ends .later)) (omega (arith, ends .later)) in
           let before : t .chain v ≤ t .chain (e - 1) = chain-le t o v (e - 1) (omega arith) (omega arith) in

@@ -5,7 +5,7 @@
 --   weightOf, spanned            what a job counts in a pair, by its own figures and by its place
 --   opened                       an open block after one more job
 --   openOver, largestOver        the open and the largest block over places of one chain
---   EndsAt, Ended                where chains end
+--   First, EndsAt, Ended         where chains begin and end
 --   notBefore                    a time of a job that does not come before one of its predecessor
 --   column, columnsOf            a figure of each job in an array, and those of a table that the bounds are made from
 -- Assumes nothing.
@@ -80,9 +80,13 @@ pub record EndsAt (count : ℕ) (chain : ℕ → ℕ) (i e : ℕ) : Type 0 where
   pub same : (u : ℕ) → i ≤ u → u < e → chain u ≡ chain i
   pub other : e < count → chain e ≢ chain i
 
--- The place after the last job of each job's chain.
+-- The job at i is the first of its chain.
+abbrev pub First : (ℕ → ℕ) → ℕ → Type 0
+First chain i = (v : ℕ) → v < i → chain v ≢ chain i
+
+-- At the first place of each chain, the place after its last job.
 abbrev pub Ended : ℕ → List ℕ → List ℕ → Type 0
-Ended count chain ends = (i : ℕ) → i < count → EndsAt count (λ u. getD chain u 0) i (getD ends i 0)
+Ended count chain ends = (i : ℕ) → i < count → First (λ u. getD chain u 0) i → EndsAt count (λ u. getD chain u 0) i (getD ends i 0)
 
 -- A time of a job that does not come before one of its predecessor; the job before it is of chain `last`.
 unfoldable pub notBefore : ℕ → ℕ → ℕ → ℕ → ℕ
@@ -92,10 +96,11 @@ notBefore last chain time predecessor = cond (eqb last chain) (max time predeces
 abbrev pub column : ℕ → (ℕ → ℕ) → List ℕ
 column n f = padded maxJobs 0 (tabulate 0 n f)
 
--- The columns that the bounds are made from, of the first n places.
-unfoldable pub columnsOf : Table → ℕ → Columns
-columnsOf t n =
+-- The columns that the bounds are made from, of the first n places, with the ends of their chains.
+unfoldable pub columnsOf : Table → ℕ → List ℕ → Columns
+columnsOf t n ends =
     record {
+      ends = ends;
       chain = column n (t .chain);
       urgency = column n (t .urgency);
       most = column n (t .most);

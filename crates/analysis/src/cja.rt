@@ -9,7 +9,6 @@ ghost use Rattle.theory.specs.Bounds.{cja as Theory·cja};
 ghost use Rattle.analysis.specs.Analysis.{cjaOf};
 use crate::answer::Bounds;
 use crate::columns::columns_of;
-use crate::ends::ends_of;
 use crate::round::round;
 use jobs::check::check;
 use jobs::refusal::Check;
@@ -23,10 +22,9 @@ pub(crate) fn accepted_cja(set: JobSet) -> [u64; JobSet::MAX_JOBS]
     let count = set.count;
     let columns = columns_of(set);
     let late = [Bounds::LIMIT; JobSet::MAX_JOBS];
-    let ends = ends_of(count, &columns.chain);
     round(
         count,
-        &ends,
+        &columns.ends,
         &columns.chain,
         &columns.urgency,
         &columns.most,

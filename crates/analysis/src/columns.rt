@@ -1,16 +1,20 @@
 // The figures of a set's jobs that the bounds are made from, a column each, with their effective releases.
 ghost use mathlib.Core.Path.{_≡_};
+ghost use mathlib.Core.Bool.{cond};
+ghost use Prim.Native.Nat.{_≤_};
+ghost use lib.Dec.{eqb};
 ghost use Rattle.jobs.specs.declared.refusal.Check.{Check};
 ghost use Rattle.jobs.specs.Jobs.{jobsOf};
 ghost use Rattle.jobs.specs.Checks.{checkOf};
 ghost use Rattle.theory.specs.Releases.{tableOf};
-ghost use Rattle.analysis.specs.Kernel.{columnsOf};
+ghost use Rattle.analysis.specs.Kernel.{columnsOf, Ended};
 use crate::number::larger;
 use crate::predecessor::not_before;
 use jobs::set::JobSet;
 
-// Places beyond the jobs hold 0.
+// Places beyond the jobs hold 0. Where a chain has its first job, `ends` has the place after its last one.
 pub struct Columns {
+    pub ends: [usize; JobSet::MAX_JOBS],
     pub chain: [u64; JobSet::MAX_JOBS],
     pub urgency: [u64; JobSet::MAX_JOBS],
     pub most: [u64; JobSet::MAX_JOBS],
@@ -18,13 +22,25 @@ pub struct Columns {
     pub latest: [u64; JobSet::MAX_JOBS],
 }
 
+// The first place of the chain of the job at i; the job before it is of chain `last`, which begins at `first`.
+fn first_of(last: u64, chain: u64, first: usize, i: usize) -> usize
+    requires { ⌜ first ≤ i ⌝ }
+    ensures { λ r. ⌜ (r ≡ cond (eqb last chain) first i) × (r ≤ i) ⌝ }
+{
+    if last == chain {
+        return first;
+    }
+    i
+}
+
 // The columns of an accepted set.
 pub(crate) fn columns_of(set: JobSet) -> Columns
     requires { ⌜ checkOf (jobsOf set) ≡ Check.Passed ⌝ }
-    ensures { λ r. ⌜ r ≡ columnsOf (tableOf (jobsOf set)) (set .count) ⌝ }
+    ensures { λ r. ⌜ (r ≡ columnsOf (tableOf (jobsOf set)) (set .count) (r .ends)) × Ended (set .count) (r .chain) (r .ends) ⌝ }
 {
     let none = [0u64; JobSet::MAX_JOBS];
     let mut columns = Columns {
+        ends: [0; JobSet::MAX_JOBS],
         chain: none,
         urgency: none,
         most: none,
@@ -34,6 +50,7 @@ pub(crate) fn columns_of(set: JobSet) -> Columns
     let count = set.count;
     let mut last: u64 = 0;
     let mut ready: u64 = 0;
+    let mut first: usize = 0;
     let mut i: usize = 0;
     while i < count {
         let job = set.jobs[i];
@@ -43,6 +60,8 @@ pub(crate) fn columns_of(set: JobSet) -> Columns
         columns.most[i] = job.most;
         columns.earliest[i] = earliest;
         columns.latest[i] = larger(job.release, earliest);
+        first = first_of(last, job.chain, first, i);
+        columns.ends[first] = i + 1;
         last = job.chain;
         ready = earliest + job.least;
         i += 1;

@@ -10,7 +10,6 @@ ghost use Rattle.analysis.specs.Analysis.{ertOf};
 ghost use Rattle.analysis.specs.Kernel.{lent, Fit, Ended};
 use crate::answer::Bounds;
 use crate::columns::columns_of;
-use crate::ends::ends_of;
 use crate::interference::interference;
 use crate::predecessor::not_before;
 use jobs::check::check;
@@ -64,10 +63,9 @@ pub(crate) fn accepted_ert(set: JobSet) -> [u64; JobSet::MAX_JOBS]
 {
     let count = set.count;
     let columns = columns_of(set);
-    let ends = ends_of(count, &columns.chain);
     by_rule(
         count,
-        &ends,
+        &columns.ends,
         &columns.chain,
         &columns.urgency,
         &columns.most,

@@ -11,7 +11,6 @@ ghost use Rattle.analysis.specs.Analysis.{itrWith, itrOf};
 ghost use Rattle.analysis.specs.Kernel.{lent, Fit, Ended};
 use crate::answer::Itr;
 use crate::columns::columns_of;
-use crate::ends::ends_of;
 use crate::predecessor::not_before;
 use crate::round::round;
 use jobs::check::check;
@@ -99,10 +98,9 @@ pub(crate) fn accepted_itr(set: JobSet) -> Itr
 {
     let count = set.count;
     let columns = columns_of(set);
-    let ends = ends_of(count, &columns.chain);
     settle(
         count,
-        &ends,
+        &columns.ends,
         &columns.chain,
         &columns.urgency,
         &columns.most,

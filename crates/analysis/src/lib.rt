@@ -4,7 +4,6 @@ pub mod answer;
 pub mod block;
 pub mod cja;
 pub mod columns;
-pub mod ends;
 pub mod ert;
 pub mod figures;
 pub mod interference;

@@ -1,26 +1,26 @@
--- `columns_of` answers `columnsOf`. The loop's invariant: the columns hold the figures of the first i jobs. Assumes nothing.
-use Prim.Native.Nat.{_-_, _≤_, _<_}
-use mathlib.Core.Path.{sym, ap, _∙_}
+-- `columns_of` answers `columnsOf` with the ends of the chains. The loop's invariant: the columns hold the figures of the first i jobs. Assumes nothing.
+use Prim.Native.Nat.{ℕ, _-_, _≤_, _<_}
+use mathlib.Core.Path.{_≡_, sym, ap, subst, _∙_}
 use native.Mathlib.Omega.{arith}
 use lib.ListN.{length}
 use borrow.Author.Needs.{needs}
+use Rattle.jobs.specs.declared.set.JobSet.{JobSet}
 use Rattle.jobs.specs.Limits.{maxJobs}
 use Rattle.jobs.specs.Jobs.{jobsOf}
 use Rattle.jobs.proofs.Sets.{length-jobs, job-at}
 use Rattle.jobs.proofs.Accepted.{accepted}
 use Rattle.theory.specs.Releases.{tableOf}
 use Rattle.theory.proofs.Releases.{earliest-latest}
-use Rattle.theory.proofs.AcceptedSets.{accepted-latest}
-use Rattle.analysis.specs.Kernel.{columnsOf}
-use Rattle.analysis.proofs.Gathered.{Gathered, gathered-none, gathered-earliest, gathered-next}
+use Rattle.theory.proofs.AcceptedSets.{accepted-ordered, accepted-latest}
+use Rattle.analysis.proofs.Gathered.{Gathered, gathered-none, gathered-earliest, gathered-next, gathered-all, gathered-ended}
 use Rattle.analysis.proofs.columns.columns_of.Statement.{statement}
 use Rattle.analysis.proofs.columns.columns_of.Tie as tie
 
 abbrev Inv-loop : tie.InvT-loop
-Inv-loop set columns₀ count last₀ ready₀ i₀ columns last ready i = (count ≤ maxJobs) × Gathered (jobsOf set) i last ready columns
+Inv-loop set columns₀ count last₀ ready₀ first₀ i₀ columns last ready first i = (count ≤ maxJobs) × Gathered (jobsOf set) i last ready first columns
 
 abbrev μ-loop : tie.MeasureT-loop
-μ-loop set columns₀ count last₀ ready₀ i₀ columns last ready i = count - i
+μ-loop set columns₀ count last₀ ready₀ first₀ i₀ columns last ready first i = count - i
 
 loop-holds : tie.Need-loop-holds Inv-loop μ-loop
 loop-holds c =
@@ -69,16 +69,28 @@ mul-columns-5 c = search needs
 element-write-columns-5 : tie.Need-element-write-columns-5 Inv-loop μ-loop
 element-write-columns-5 c = search needs
 
+first-of-requires : tie.Need-first-of-requires Inv-loop μ-loop
+first-of-requires c κs = c .before .before .before .before .loop .inv .1 .heads .within
+
+add-columns : tie.Need-add-columns Inv-loop μ-loop
+add-columns c = search needs
+
+mul-columns-6 : tie.Need-mul-columns-6 Inv-loop μ-loop
+mul-columns-6 c = search needs
+
+element-write-columns-6 : tie.Need-element-write-columns-6 Inv-loop μ-loop
+element-write-columns-6 c = search needs
+
 add-ready : tie.Need-add-ready Inv-loop μ-loop
 add-ready c =
-    let s = c .before .before .before .before .before .before .args .t1 in
-    let ok = accepted (jobsOf s) (c .before .before .before .before .before .before .pre) in
-    let l = c .before .before .before .before .before .loop in
-    let h : l .i < length (jobsOf s) = omega (arith, length-jobs s, c .before .before .before .before .loop-test .taken) in
-    let e = gathered-earliest (jobsOf s) (ok .few) (l .i) h _ (sym (job-at s (l .i) (c .before .before .before .before .loop-test .taken))) (l .inv .1) (c .before .before .not-before .result) (c .before .before .not-before .ensures) in
-    let late = accepted-latest (jobsOf s) ok (l .i) h in
-    let limits = rw (job-at s (l .i) (c .before .before .before .before .loop-test .taken)) at (ok .limits (l .i) h) in
-    search (needs, e, late, earliest-latest (jobsOf s) (l .i), limits .range, limits .time)
+    let s = c .before .before .before .before .before .before .before .args .t1 in
+    let ok = accepted (jobsOf s) (c .before .before .before .before .before .before .before .pre) in
+    let l = c .before .before .before .before .before .before .loop in
+    let taken = c .before .before .before .before .before .loop-test .taken in
+    let h : l .i < length (jobsOf s) = omega (arith, length-jobs s, taken) in
+    let e = gathered-earliest (jobsOf s) (ok .few) (l .i) h _ (sym (job-at s (l .i) taken)) (l .inv .1) (c .before .before .before .not-before .result) (c .before .before .before .not-before .ensures) in
+    let limits = rw (job-at s (l .i) taken) at (ok .limits (l .i) h) in
+    search (needs, e, accepted-latest (jobsOf s) ok (l .i) h, earliest-latest (jobsOf s) (l .i), limits .range, limits .time)
 
 add-i : tie.Need-add-i Inv-loop μ-loop
 add-i c = search needs
@@ -88,17 +100,19 @@ loop-less c = search needs
 
 loop-again : tie.Need-loop-again Inv-loop μ-loop
 loop-again c =
-    let s = c .before .before .before .before .before .before .args .t1 in
-    let ok = accepted (jobsOf s) (c .before .before .before .before .before .before .pre) in
-    let l = c .before .before .before .before .before .loop in
-    let h : l .i < length (jobsOf s) = omega (arith, length-jobs s, c .before .before .before .before .loop-test .taken) in
-    (l .inv .0, gathered-next (jobsOf s) (ok .few) (l .i) h _ (sym (job-at s (l .i) (c .before .before .before .before .loop-test .taken))) (l .inv .1) (c .before .before .not-before .result) (c .before .before .not-before .ensures) (c .before .larger .result) (c .before .larger .ensures))
+    let s = c .before .before .before .before .before .before .before .args .t1 in
+    let ok = accepted (jobsOf s) (c .before .before .before .before .before .before .before .pre) in
+    let l = c .before .before .before .before .before .before .loop in
+    let taken = c .before .before .before .before .before .loop-test .taken in
+    let h : l .i < length (jobsOf s) = omega (arith, length-jobs s, taken) in
+    (l .inv .0, gathered-next (jobsOf s) (ok .few) (l .i) h _ (sym (job-at s (l .i) taken)) (l .inv .1) (c .before .before .before .not-before .result) (c .before .before .before .not-before .ensures) (accepted-ordered (jobsOf s) ok) (c .before .before .larger .result) (c .before .before .larger .ensures) (c .before .first-of .result) (c .before .first-of .ensures .0))
 
 returns : tie.Need-returns Inv-loop μ-loop
 returns c =
     let s = c .before .before .args .t1 in
     let l = c .before .loop in
-    l .inv .1 .are ∙ ap (columnsOf (tableOf (jobsOf s))) (omega (arith, length-jobs s, l .inv .1 .inside, c .loop-test .left))
+    let all : l .i ≡ s .count = omega (arith, length-jobs s, l .inv .1 .inside, c .loop-test .left) in
+    (gathered-all (jobsOf s) (l .i) (s .count) all (l .inv .1), gathered-ended (jobsOf s) (l .i) (s .count) all (l .inv .1))
 
 pub columns-of-spec : {M : Type 1} → statement M
 columns-of-spec =
@@ -121,6 +135,10 @@ columns-of-spec =
     larger-requires
     mul-columns-5
     element-write-columns-5
+    first-of-requires
+    add-columns
+    mul-columns-6
+    element-write-columns-6
     add-ready
     add-i
     loop-less

@@ -10,22 +10,18 @@ use Rattle.analysis.proofs.ert.accepted_ert.Tie as tie
 columns-of-requires : tie.Need-columns-of-requires
 columns-of-requires c κs = search needs
 
-ends-of-requires : tie.Need-ends-of-requires
-ends-of-requires c κs =
-    let s = c .before .before .before in
-    lends (s .args .set) (s .pre) (c .before .before .columns-of .result) (c .before .before .columns-of .ensures) .fit .few
-
 by-rule-requires : tie.Need-by-rule-requires
 by-rule-requires c κs =
-    let s = c .before .before .before .before .before .before .before .before .before .before .before in
-    let held = lends (s .args .set) (s .pre) (c .before .before .before .before .before .before .before .before .before .before .columns-of .result) (c .before .before .before .before .before .before .before .before .before .before .columns-of .ensures) in
-    (held .fit, c .before .before .before .before .before .before .before .ends-of .ensures)
+    let s = c .before .before .before .before .before .before .before .before in
+    let made = c .before .before .before .before .before .before .before .columns-of in
+    (lends (s .args .set) (s .pre) (made .result) (made .ensures .0) .fit, made .ensures .1)
 
 returns : tie.Need-returns
 returns c =
-    let s = c .before .before .before .before .before .before .before .before .before .before .before .before in
-    let held = lends (s .args .set) (s .pre) (c .before .before .before .before .before .before .before .before .before .before .before .columns-of .result) (c .before .before .before .before .before .before .before .before .before .before .before .columns-of .ensures) in
+    let s = c .before .before .before .before .before .before .before .before .before in
+    let made = c .before .before .before .before .before .before .before .before .columns-of in
+    let held = lends (s .args .set) (s .pre) (made .result) (made .ensures .0) in
     c .by-rule .ensures ∙ ap (padded maxJobs 0) (held .by-ert)
 
 pub accepted-ert-spec : {M : Type 1} → statement M
-accepted-ert-spec = tie.close (tie.spec columns-of-requires ends-of-requires by-rule-requires returns)
+accepted-ert-spec = tie.close (tie.spec columns-of-requires by-rule-requires returns)

@@ -37,7 +37,7 @@ end-at l = getD (l .before .args .ends .now) (l .loop .i) 0
 
 module _ (l : tie.At-loop Inv-loop μ-loop) (h : l .loop .i < l .before .args .count) where
   chain-ends : EndsAt (l .before .args .count) (λ u. getD (l .before .args .chain .now) u 0) (l .loop .i) (end-at l)
-  chain-ends = l .before .pre .1 (l .loop .i) h
+  chain-ends = l .before .pre .1 (l .loop .i) h (l .loop .inv .first h)
 
   shared-at : (y : ℕ)
       → y ≡ cond (eqb (getD (l .before .args .chain .now) (l .loop .i) 0) (l .before .args .own)) 0 (largestOver (λ u. getD (l .before .args .urgency .now) u 0) (l .before .args .target) (counts (l .before)) (l .loop .i) (end-at l - l .loop .i))
