@@ -154,9 +154,9 @@ module _ (old new : List Job) (k : ℕ) (s : JobSet) (last : Job) (r : Joining o
         })
 
 -- the next job as the code makes it
-pub next-job : (old new : JobSet) (k : ℕ) (last : Job) → last ≡ lastOf noJob (jobsOf old) → k < new .count
-    → renumbered (last .chain + 1) (k + 1) (getD (new .jobs) k noJob) ≡ nextJob (jobsOf old) (jobsOf new) k
-next-job old new k last e h = rw (e, job-at new k h)
+pub next-job : (old new : JobSet) (k : ℕ) (last j : Job) → last ≡ lastOf noJob (jobsOf old) → k < new .count
+    → j ≡ renumbered (last .chain + 1) (k + 1) (getD (new .jobs) k noJob) → j ≡ nextJob (jobsOf old) (jobsOf new) k
+next-job old new k last j e h is = is ∙ rw (e, job-at new k h)
 
 -- ---- the answer
 module _ (old new : JobSet) where

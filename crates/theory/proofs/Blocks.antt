@@ -4,6 +4,7 @@
 use Prim.Native.Nat.{ℕ, zero, suc, _+_, _≤_, _<_, max}
 use mathlib.Core.Path.{_≡_, refl, ap, _∙_}
 use mathlib.Core.Logic.{_≢_}
+use mathlib.Core.Bool.{Bool, cond}
 use native.Mathlib.Omega.{arith}
 use native.Mathlib.Nat.{add-zero, add-suc}
 use borrow.Author.Tests.{le-leb, lt-leb, eq-eqb, ne-eqb}
@@ -26,7 +27,7 @@ module _ (t : Table) (c target : ℕ) where
 
     pub block-on : (u : ℕ) → t .chain u ≡ c → target ≤ t .urgency u → openBlock t c target w (suc u) ≡ openBlock t c target w u + w u
     unfolding openBlock
-    block-on u e l = rw (eq-eqb, le-leb)
+    block-on u e l = rw eq-eqb (ap (λ (b : Bool). cond b (openBlock t c target w u + w u) 0) (le-leb target (t .urgency u) l))
 
     pub block-ends : (u : ℕ) → t .chain u ≡ c → t .urgency u < target → openBlock t c target w (suc u) ≡ 0
     unfolding openBlock

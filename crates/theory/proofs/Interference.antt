@@ -25,7 +25,7 @@ module _ (t : Table) (own target : ℕ) where
       → interference t own target w ≤ sumBelow (suc (chains t)) (λ c. cond (eqb c own) 0 (g c))
   unfolding interference
   interference-within w g h =
-      sum-mono _ _ _ (λ c l. by-test (eqb c own) (λ e. rw e (omega arith)) (λ e. rw e (h c (eqb-false c own e))))
+      sum-mono _ _ _ (λ c l. by-test (eqb c own) (λ e. let none : 0 ≤ 0 = omega arith in rw e none) (λ e. rw e (h c (eqb-false c own e))))
 
   pub interference-mono : (w v : ℕ → ℕ) → ((u : ℕ) → u < t .count → t .chain u ≢ own → w u ≤ v u)
       → interference t own target w ≤ interference t own target v

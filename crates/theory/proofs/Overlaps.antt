@@ -5,8 +5,8 @@ use mathlib.Core.Bool.{true}
 use mathlib.Core.List.{List}
 use native.Mathlib.Omega.{arith}
 use lib.Dec.{ltb}
-use borrow.Author.Tests.{ltb-true, lt-ltb, le-ltb}
-use Rattle.laws.proofs.Tests.{by-order, both-ways, and-right}
+use borrow.Author.Tests.{ltb-true, lt-ltb}
+use Rattle.laws.proofs.Tests.{and-left, and-right}
 use Rattle.theory.specs.Table.{Table}
 use Rattle.theory.specs.Bounds.{boundAt}
 use Rattle.theory.specs.Rounds.{overlap}
@@ -14,11 +14,11 @@ use Rattle.theory.specs.Rounds.{overlap}
 module _ (t : Table) (b : List ℕ) (k j u : ℕ) where
   pub overlap-left : overlap t b k j u ≡ true → t .earliest k < boundAt b u
   unfolding overlap
-  overlap-left e = by-order (boundAt b u) (t .earliest k) (λ low. absurd (both-ways e (rw (le-ltb (t .earliest k))))) (λ l. l)
+  overlap-left e = ltb-true (t .earliest k) (boundAt b u) (and-left (ltb (t .earliest k) (boundAt b u)) (ltb (t .earliest u) (boundAt b j)) e)
 
   pub overlap-right : overlap t b k j u ≡ true → t .earliest u < boundAt b j
   unfolding overlap
-  overlap-right e = ltb-true (t .earliest u) (boundAt b j) (and-right (ltb (t .earliest k) (boundAt b u)) _ e)
+  overlap-right e = ltb-true (t .earliest u) (boundAt b j) (and-right (ltb (t .earliest k) (boundAt b u)) (ltb (t .earliest u) (boundAt b j)) e)
 
   pub overlap-by : t .earliest k < boundAt b u → t .earliest u < boundAt b j → overlap t b k j u ≡ true
   unfolding overlap

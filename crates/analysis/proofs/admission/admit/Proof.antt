@@ -1,6 +1,6 @@
 -- `admit` answers `admissionOf`: a refusal of the joining, or what the verdict on the joined set leaves. Assumes nothing.
 use mathlib.Core.List.{List}
-use mathlib.Core.Path.{sym, ap, _∙_}
+use mathlib.Core.Path.{_≡_, sym, ap, _∙_}
 use borrow.Author.Needs.{needs}
 use Rattle.jobs.specs.declared.job.Job.{Job}
 use Rattle.jobs.specs.Jobs.{jobsOf, setOf}
@@ -41,8 +41,9 @@ returns-2 c =
     let a = c .before .before .before .before .before .args in
     let j = c .before .before .before .before .join in
     let p = c .before .before .enum-told .given .1 in
+    let e : c .admitted .result ≡ admitted (c .before .accepted-verdict .result) (a .old) (j .result .set) = c .admitted .ensures in
     rw (joined-passes (a .old) (a .new) (j .result) (j .ensures) p)
-    (c .admitted .ensures
+    (e
     ∙ ap (λ (s : JobSet). admitted (c .before .accepted-verdict .result) (a .old) s) (joined-set (a .old) (a .new) (j .result) (j .ensures) p)
     ∙ ap (λ (v : Verdict). admitted v (a .old) (setOf (withChain (jobsOf (a .old)) (jobsOf (a .new))))) (c .before .accepted-verdict .ensures ∙ ap (λ (js : List Job). verdictBy js (a .algorithm)) (joined-jobs (a .old) (a .new) (j .result) (j .ensures) p)))
 

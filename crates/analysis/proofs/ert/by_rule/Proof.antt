@@ -116,9 +116,18 @@ loop-again c =
     let h = c .before .before .before .before .before .before .before .before .before .loop-test .taken in
     let delay = c .before .before .before .before .before .interference .result in
     let is = delay-is s (l .i) delay (c .before .before .before .before .before .interference .ensures) in
+    let next =
     ruled-next (table s) (interferenceAt (table s)) (s .pre .0) (l .inv) h (c .before .before .not-before .result) _ (c .before .before .not-before .ensures)
     (omega (arith, is, delay-small s (l .i) delay (c .before .before .before .before .before .interference .ensures)))
     (ap (λ (d : ℕ). c .before .before .not-before .result + getD (s .args .most .now) (l .i) 0 + d) is)
+    in
+    record {
+      inside = next .inside;
+      last-is = next .last-is;
+      bound-is = next .bound-is;
+      bounds-are = next .bounds-are;
+      small = next .small;
+    }
 
 returns : tie.Need-returns Inv-loop μ-loop
 unfolding ert

@@ -74,7 +74,7 @@ returns-2 c =
     let l = c .before .before .before .before .before .before .before .before .loop in
     let h = c .before .before .before .before .before .before .before .loop-test .taken in
     sym (join-refused o n _ (joining-refused (jobsOf o) (jobsOf n) (l .k) (l .set) (l .last) (l .inv) (c .before .before .before .before .renumber .result) (omega (arith, length-jobs n))
-    (c .before .before .before .before .renumber .ensures ∙ next-job o n (l .k) (c .before .before .before .before .before .before .before .before .before .before .last-of .result) (c .before .before .before .before .before .before .before .before .before .before .last-of .ensures) h) _ (sym (c .before .before .before .check-record .ensures) ∙ c .before .refusal .given .1)))
+    (next-job o n (l .k) (c .before .before .before .before .before .before .before .before .before .before .last-of .result) (c .before .before .before .before .renumber .result) (c .before .before .before .before .before .before .before .before .before .before .last-of .ensures) h (c .before .before .before .before .renumber .ensures)) _ (sym (c .before .before .before .check-record .ensures) ∙ c .before .refusal .given .1)))
 
 enum-told : tie.Need-enum-told Inv-loop μ-loop
 enum-told c = search needs
@@ -101,7 +101,7 @@ loop-again c =
     let l = c .before .before .before .before .before .before .before .loop in
     let h = c .before .before .before .before .before .before .loop-test .taken in
     joining-next (jobsOf o) (jobsOf n) (l .k) (l .set) (l .last) (l .inv) (c .before .before .before .renumber .result) (omega (arith, length-jobs n))
-    (c .before .before .before .renumber .ensures ∙ next-job o n (l .k) (c .before .before .before .before .before .before .before .before .before .last-of .result) (c .before .before .before .before .before .before .before .before .before .last-of .ensures) h) (c .before .before .before .before .before .if1 .left) (sym (c .before .before .check-record .ensures) ∙ c .enum-told .given .1)
+    (next-job o n (l .k) (c .before .before .before .before .before .before .before .before .before .last-of .result) (c .before .before .before .renumber .result) (c .before .before .before .before .before .before .before .before .before .last-of .ensures) h (c .before .before .before .renumber .ensures)) (c .before .before .before .before .before .if1 .left) (sym (c .before .before .check-record .ensures) ∙ c .enum-told .given .1)
 
 returns-3 : tie.Need-returns-3 Inv-loop μ-loop
 returns-3 c =

@@ -2,13 +2,14 @@
 use borrow.Author.Needs.{needs}
 use borrow.Author.Tests.{lt-ltb, le-ltb, not-true, not-false}
 use mathlib.Core.Path.{sym, _∙_}
+use Rattle.jobs.specs.Limits.{maxJobs}
 use Rattle.jobs.specs.Records.{recordCheck}
 use Rattle.jobs.proofs.record.check_record.Statement.{statement}
 use Rattle.jobs.proofs.record.check_record.Tie as tie
 
 returns : tie.Need-returns
 unfolding recordCheck
-returns c = simp (le-ltb _ _ (c .if1 .taken))
+returns c = simp (le-ltb (c .before .args .n) maxJobs (c .if1 .taken))
 
 is-next-requires : tie.Need-is-next-requires
 is-next-requires c κs = search needs

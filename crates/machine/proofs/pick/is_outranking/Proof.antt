@@ -1,4 +1,6 @@
 -- `is_outranking` meets its contract. Assumes nothing.
+use mathlib.Core.Path.{_≡_, refl}
+use lib.Dec.{ltb}
 use borrow.Author.Tests.{lt-ltb, le-ltb, eq-eqb, ne-eqb}
 use Rattle.machine.specs.Pick.{outranks}
 use Rattle.machine.proofs.pick.is_outranking.Statement.{statement}
@@ -10,7 +12,10 @@ returns c = simp (lt-ltb _ _ (c .if1 .taken))
 
 returns-2 : tie.Need-returns-2
 unfolding outranks
-returns-2 c = simp (le-ltb _ _ (c .before .before .before .if1 .left), eq-eqb _ _ (c .before .if2 .taken))
+returns-2 c =
+    let a = c .before .before .before .before .before .args in
+    let lower : ltb (a .chain) (a .best .chain) ≡ ltb (a .chain) (a .best .chain) = refl in
+    simp (le-ltb _ _ (c .before .before .before .if1 .left), eq-eqb _ _ (c .before .if2 .taken)) lower
 
 returns-3 : tie.Need-returns-3
 unfolding outranks

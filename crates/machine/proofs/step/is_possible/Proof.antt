@@ -1,9 +1,11 @@
 -- `is_possible` meets its contract. Assumes nothing.
 use mathlib.Core.List.{[]}
-use mathlib.Core.Path.{sym, _∙_}
+use mathlib.Core.Path.{_≡_, sym, _∙_}
 use borrow.Author.Tests.{lt-leb, le-leb, eq-eqb, ne-eqb, not-true, not-false}
 use borrow.Author.Needs.{needs}
+use Rattle.machine.specs.Ready.{predecessorComplete}
 use Rattle.machine.specs.Steps.{possible}
+use Rattle.machine.specs.Private.{seen}
 use Rattle.machine.proofs.Readiness.{predecessor-seen}
 use Rattle.machine.proofs.step.is_possible.Statement.{statement}
 use Rattle.machine.proofs.step.is_possible.Tie as tie
@@ -39,7 +41,10 @@ is-predecessor-complete-requires c κs = search needs
 
 returns-3 : tie.Need-returns-3
 unfolding possible
-returns-3 c = let a = c .before .before .before .before .before .before .before .before .args in simp (le-leb _ _ (c .before .before .before .before .if1 .left), ne-eqb _ _ (c .before .before .if2 .left), sym (predecessor-seen (a .chain .now) [] (a .release .now) (a .times .now) (a .work .now) (a .at)) ∙ sym (c .before .is-predecessor-complete .ensures) ∙ not-true _ (c .if3 .taken))
+returns-3 c =
+    let a = c .before .before .before .before .before .before .before .before .args in
+    let e : c .before .is-predecessor-complete .result ≡ predecessorComplete (seen (a .chain .now) [] []) (a .times .now) (a .work .now) (a .at) = c .before .is-predecessor-complete .ensures in
+    simp (le-leb _ _ (c .before .before .before .before .if1 .left), ne-eqb _ _ (c .before .before .if2 .left), sym (predecessor-seen (a .chain .now) [] (a .release .now) (a .times .now) (a .work .now) (a .at)) ∙ sym e ∙ not-true _ (c .if3 .taken))
 
 mul-result : tie.Need-mul-result
 mul-result c = search needs

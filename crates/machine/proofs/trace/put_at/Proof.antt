@@ -1,5 +1,8 @@
 -- `put_at` meets its contract. Assumes nothing.
+use mathlib.Core.Path.{_≡_}
+use mathlib.Core.Bool.{true, _&&_}
 use mathlib.Core.Logic.{⊎-elim}
+use lib.Dec.{eqb}
 use borrow.Author.Tests.{lt-ltb, le-ltb}
 use borrow.Author.Needs.{needs}
 use Rattle.machine.specs.Private.{putAt}
@@ -14,7 +17,10 @@ sub-t10 c = search needs
 
 returns : tie.Need-returns
 unfolding putAt
-returns c = rw (lt-ltb _ _ (c .before .before .before .if1 .taken), c .if2 .taken)
+returns c =
+    let a = c .before .before .before .before .args in
+    let on : eqb (a .last .at) (a .at) && eqb (a .last .to) (a .time) ≡ true = c .if2 .taken in
+    rw (lt-ltb _ _ (c .before .before .before .if1 .taken), on)
 
 add-t12 : tie.Need-add-t12
 add-t12 c = search needs

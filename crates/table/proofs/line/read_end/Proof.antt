@@ -16,7 +16,7 @@ shared-slice-read-if3 : tie.Need-shared-slice-read-if3
 shared-slice-read-if3 c = search needs
 
 returns-3 : tie.Need-returns-3
-returns-3 c = sym (end-other _ (c .before .before .if2 .left) (inl (c .if3 .taken)))
+returns-3 c = sym (end-other (c .before .before .before .before .args .rest .now) (c .before .before .if2 .left) (inl (c .if3 .taken)))
 
 shared-slice-read-if4 : tie.Need-shared-slice-read-if4
 shared-slice-read-if4 c = search needs
