@@ -29,11 +29,11 @@ use Rattle.machine.specs.Pick.{outranks, goesFirst, pickUpTo, pick}
 use Rattle.machine.specs.Ticks.{allComplete, next}
 use Rattle.machine.specs.Traces.{goesOn, extended, rows}
 use Rattle.machine.proofs.Forward.{Carried, onward, carried, run-carried, trace-carried}
-use Rattle.known_results.specs.Cases.{answersOf, Run, runWith, Case, byDefinition, p1, p2, p3, p4With3, p4, p5, p6With4, p6With6, p6, p7, p8, cases}
+use Rattle.known_results.specs.Cases.{answersOf, KnownRun, runWith, Case, byDefinition, p1, p2, p3, p4With3, p4, p5, p6With4, p6With6, p6, p7, p8, cases}
 
 -- ---- runs
 -- what ticks carried forward give of a run
-abbrev runBy : List Job → List ℕ → Carried → Run
+abbrev runBy : List Job → List ℕ → Carried → KnownRun
 runBy js times c =
     record {
       times = times;
@@ -43,7 +43,7 @@ runBy js times c =
       rows = rows js (c .spans);
     }
 
-settled-run : (js : List Job) (r : Run) → machineCheck js (r .times) ≡ Passed → r .end ≤ lastTime
+settled-run : (js : List Job) (r : KnownRun) → machineCheck js (r .times) ≡ Passed → r .end ≤ lastTime
     → allComplete (r .times) (carried (tableOf js) (r .times) (r .end) .state .work) (length js) ≡ true
     → runBy js (r .times) (carried (tableOf js) (r .times) (r .end)) ≡ r → runWith js (r .times) ≡ r
 unfolding runWith

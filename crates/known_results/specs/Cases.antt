@@ -1,12 +1,13 @@
 -- Tables with known results. Document 01, P1 to P8; Tables 1 to 3 of source document 004 for P1.
 --   Answers        what is known of a table: the check of its set and, in table order, effective releases, interference, bounds and slacks; the rounds of ITR, the verdict by ITR
 --   answersOf      the same, by the definitions
---   Run            running times and what is known of the run with them: its check, each job's completion in table order, its end, the rows of its trace
+--   KnownRun       running times and what is known of the run with them: its check, each job's completion in table order, its end, the rows of its trace
 --   runWith        the same, by the definitions
 --   Case           a table's records, what is known of it and of its runs
 --   byDefinition   a case with every answer worked out by the definitions
 --   cases          the table of cases
--- Where document 01 gives no deadline, priority or least time, one is chosen here. Assumes nothing.
+-- Where document 01 gives no deadline, priority or least time, one is chosen here. Of runs it gives the rows of P2, a completion of P3 and the end
+-- of P4; the other figures of runs are worked out by hand from its rules. Assumes nothing.
 use Prim.Native.Nat.{ℕ}
 use mathlib.Core.Bool.{Bool, true, false}
 use mathlib.Core.List.{List, [], _∷_, _++_, map}
@@ -50,14 +51,14 @@ answersOf js =
       verdict = meets js (itr t .bounds) (length js);
     }
 
-pub record Run : Type 0 where
+pub record KnownRun : Type 0 where
   pub times : List ℕ
   pub check : Check
   pub completions : List ℕ
   pub end : ℕ
   pub rows : List ℕ
 
-unfoldable pub runWith : List Job → List ℕ → Run
+unfoldable pub runWith : List Job → List ℕ → KnownRun
 runWith js times =
     let run = runOf js times in
     record {
@@ -79,13 +80,13 @@ row c k from to = c ∷ k ∷ from ∷ to ∷ []
 pub record Case : Type 0 where
   pub jobs : List Job
   pub known : Answers
-  pub runs : List Run
+  pub runs : List KnownRun
 
 unfoldable pub byDefinition : Case → Case
 byDefinition c = record { jobs = c .jobs; known = answersOf (c .jobs); runs = map (λ r. runWith (c .jobs) (r .times)) (c .runs) }
 
 -- P2: P1 with all most times
-abbrev pub p2 : Run
+abbrev pub p2 : KnownRun
 p2 =
     record {
       times = 40 ∷ 10 ∷ 50 ∷ 85 ∷ 10 ∷ 50 ∷ [];
@@ -96,7 +97,7 @@ p2 =
     }
 
 -- P3: P1 with 30 for the first job; job 1 of chain 2 completes later, at 50 and not 40
-abbrev pub p3 : Run
+abbrev pub p3 : KnownRun
 p3 =
     record {
       times = 30 ∷ 10 ∷ 50 ∷ 85 ∷ 10 ∷ 50 ∷ [];
@@ -132,7 +133,7 @@ p1 =
     }
 
 -- before its release the machine is idle
-abbrev pub p4With3 : Run
+abbrev pub p4With3 : KnownRun
 p4With3 = record { times = 3 ∷ []; check = Passed; completions = 8 ∷ []; end = 8; rows = row 1 1 5 8 }
 
 -- one job, with the deadline that its bound meets and with the one before
@@ -174,10 +175,10 @@ p5 =
     }
 
 -- the second job at its effective release, and later, where the first takes its most time
-abbrev pub p6With4 : Run
+abbrev pub p6With4 : KnownRun
 p6With4 = record { times = 4 ∷ 2 ∷ []; check = Passed; completions = 4 ∷ 6 ∷ []; end = 6; rows = row 1 1 0 4 ++ row 1 2 4 6 }
 
-abbrev pub p6With6 : Run
+abbrev pub p6With6 : KnownRun
 p6With6 = record { times = 6 ∷ 2 ∷ []; check = Passed; completions = 6 ∷ 8 ∷ []; end = 8; rows = row 1 1 0 6 ++ row 1 2 6 8 }
 
 -- a later job's effective release
