@@ -13,7 +13,7 @@ use machine::trace::Traced;
 use machine::trace::trace;
 
 // The most time of each job; lending the array needs its length.
-fn most_times(set: JobSet) -> [u64; JobSet::MAX_JOBS]
+pub(crate) fn most_times(set: JobSet) -> [u64; JobSet::MAX_JOBS]
     ensures { λ r. ⌜ maxJobs ≡ length r ⌝ }
 {
     let mut times = [0u64; JobSet::MAX_JOBS];

@@ -1,10 +1,15 @@
 -- The definitions give what is known of each case, figure by figure and by computation; P1 is accepted, so that demand 3 holds of it. Assumes nothing.
+--   settled-run     a run is what its ticks up to its end give, where all work is done after them
+--   known-results   the table of cases is as the definitions have it
+use Prim.Native.Nat.{ℕ, _≤_}
 use mathlib.Core.Path.{_≡_, refl}
 use mathlib.Core.Bool.{true, false}
 use mathlib.Core.List.{List, [], _∷_, map}
+use native.Mathlib.Omega.{arith}
 use lib.IntN.{pos, negsuc}
-use lib.ListN.{length}
+use lib.ListN.{length, getD}
 use Rattle.laws.specs.Places.{sumBelow, tabulate, greatest, lastOf}
+use Rattle.jobs.specs.declared.job.Job.{Job}
 use Rattle.jobs.specs.declared.refusal.Check.the-variants.{Passed}
 use Rattle.jobs.specs.Records.{isNext, inLimits, recordCheck}
 use Rattle.jobs.specs.Checks.{recordsCheck, checkOf}
@@ -17,11 +22,36 @@ use Rattle.theory.specs.Rounds.{itrStart, overlap, round, sameBounds, settle, r
 use Rattle.theory.specs.Verdicts.{slack, slacks, meets}
 use Rattle.theory.specs.Claims.{Demand3}
 use Rattle.theory.proofs.Claims.{demand-3}
-use Rattle.known_results.specs.Cases.{answersOf, Case, p1, p4, p5, p6, p7, p8, cases}
+use Rattle.machine.specs.Every.{everyBelow}
+use Rattle.machine.specs.States.{lastTime}
+use Rattle.machine.specs.Times.{inRange, timesFit, machineCheck}
+use Rattle.machine.specs.Ready.{complete, predecessorComplete, ready}
+use Rattle.machine.specs.Pick.{outranks, goesFirst, pickUpTo, pick}
+use Rattle.machine.specs.Ticks.{allComplete, next}
+use Rattle.machine.specs.Traces.{goesOn, extended, rows}
+use Rattle.machine.proofs.Forward.{Carried, onward, carried, run-carried, trace-carried}
+use Rattle.known_results.specs.Cases.{answersOf, KnownRun, runWith, Case, byDefinition, p1, p2, p3, p4With3, p4, p5, p6With4, p6With6, p6, p7, p8, cases}
 
-abbrev Known : Case → Type 0
-Known c = answersOf (c .jobs) ≡ c .known
+-- ---- runs
+-- what ticks carried forward give of a run
+abbrev runBy : List Job → List ℕ → Carried → KnownRun
+runBy js times c =
+    record {
+      times = times;
+      check = Passed;
+      completions = tabulate 0 (length js) (λ u. getD (c .completed) u 0);
+      end = c .state .time;
+      rows = rows js (c .spans);
+    }
 
+settled-run : (js : List Job) (r : KnownRun) → machineCheck js (r .times) ≡ Passed → r .end ≤ lastTime
+    → allComplete (r .times) (carried (tableOf js) (r .times) (r .end) .state .work) (length js) ≡ true
+    → runBy js (r .times) (carried (tableOf js) (r .times) (r .end)) ≡ r → runWith js (r .times) ≡ r
+unfolding runWith
+settled-run js r passed early done known =
+    rw (run-carried js (r .times) passed (r .end) early done, trace-carried js (r .times) passed (r .end) early done) known
+
+-- ---- the table
 -- a case whose figures are known one by one; slacks and verdict follow from the ITR bounds
 figures : (c : Case) → checkOf (c .jobs) ≡ c .known .check
     → tabulate 0 (length (c .jobs)) (tableOf (c .jobs) .earliest) ≡ c .known .releases
@@ -32,26 +62,28 @@ figures : (c : Case) → checkOf (c .jobs) ≡ c .known .check
     → itr (tableOf (c .jobs)) .rounds ≡ c .known .rounds
     → tabulate 0 (length (c .jobs)) (λ i. slack (jobAt (c .jobs) i .deadline) (boundAt (c .known .itrBounds) i)) ≡ c .known .slack
     → meets (c .jobs) (c .known .itrBounds) (length (c .jobs)) ≡ c .known .verdict
-    → Known c
+    → answersOf (c .jobs) ≡ c .known
 unfolding answersOf slacks
 figures c check releases interferences ert-bounds cja-bounds itr-bounds rounds slacks-are verdict =
     rw (check, releases, interferences, ert-bounds, cja-bounds, itr-bounds, rounds, slacks-are, verdict)
 
+answered : (c : Case) → answersOf (c .jobs) ≡ c .known → map (λ r. runWith (c .jobs) (r .times)) (c .runs) ≡ c .runs → byDefinition c ≡ c
+unfolding byDefinition
+answered c answers runs = rw (answers, runs)
+
 first-and-rest : {A : Type 0} {x y : A} {xs ys : List A} → x ≡ y → xs ≡ ys → x ∷ xs ≡ y ∷ ys
 first-and-rest e f = rw (e, f)
 
-pub known-results : map (λ c. answersOf (c .jobs)) cases ≡ map (λ c. c .known) cases
-unfolding tabulate sumBelow greatest lastOf isNext inLimits recordCheck recordsCheck checkOf joined effectiveEarliest effectiveLatest openBlock largestBlock chains interference ertRule interferenceAt ert demand lowest counted pairBound largestPair cjaWith cja itrStart overlap round sameBounds settle roundLimit itr meets
+pub known-results : map byDefinition cases ≡ cases
+unfolding tabulate sumBelow greatest lastOf isNext inLimits recordCheck recordsCheck checkOf joined effectiveEarliest effectiveLatest openBlock largestBlock chains interference ertRule interferenceAt ert demand lowest counted pairBound largestPair cjaWith cja itrStart overlap round sameBounds settle roundLimit itr slacks meets everyBelow inRange timesFit machineCheck complete predecessorComplete ready outranks goesFirst pickUpTo pick next goesOn extended rows onward carried
 known-results =
-    let case-1 : Known p1 = figures p1 refl refl refl refl refl refl refl refl refl in
-    let case-2 : Known (p4 12 (pos 0) true) = figures (p4 12 (pos 0) true) refl refl refl refl refl refl refl refl refl in
-    let case-3 : Known (p4 11 (negsuc 0) false) = figures (p4 11 (negsuc 0) false) refl refl refl refl refl refl refl refl refl in
-    let case-4 : Known p5 = figures p5 refl refl refl refl refl refl refl refl refl in
-    let case-5 : Known p6 = figures p6 refl refl refl refl refl refl refl refl refl in
-    let case-6 : Known p7 = figures p7 refl refl refl refl refl refl refl refl refl in
-    let case-7 : Known p8 = figures p8 refl refl refl refl refl refl refl refl refl in
-    first-and-rest case-1
-    (first-and-rest case-2 (first-and-rest case-3 (first-and-rest case-4 (first-and-rest case-5 (first-and-rest case-6 (first-and-rest {xs = []} case-7 refl))))))
+    first-and-rest (answered p1 (figures p1 refl refl refl refl refl refl refl refl refl) (first-and-rest (settled-run (p1 .jobs) p2 refl (omega arith) refl refl) (first-and-rest (settled-run (p1 .jobs) p3 refl (omega arith) refl refl) refl)))
+    (first-and-rest (answered (p4 12 (pos 0) true) (figures (p4 12 (pos 0) true) refl refl refl refl refl refl refl refl refl) (first-and-rest (settled-run (p4 12 (pos 0) true .jobs) p4With3 refl (omega arith) refl refl) refl))
+    (first-and-rest (answered (p4 11 (negsuc 0) false) (figures (p4 11 (negsuc 0) false) refl refl refl refl refl refl refl refl refl) (first-and-rest (settled-run (p4 11 (negsuc 0) false .jobs) p4With3 refl (omega arith) refl refl) refl))
+    (first-and-rest (answered p5 (figures p5 refl refl refl refl refl refl refl refl refl) refl)
+    (first-and-rest (answered p6 (figures p6 refl refl refl refl refl refl refl refl refl) (first-and-rest (settled-run (p6 .jobs) p6With4 refl (omega arith) refl refl) (first-and-rest (settled-run (p6 .jobs) p6With6 refl (omega arith) refl refl) refl)))
+    (first-and-rest (answered p7 (figures p7 refl refl refl refl refl refl refl refl refl) refl)
+    (first-and-rest (answered p8 (figures p8 refl refl refl refl refl refl refl refl refl) refl) refl))))))
 
 pub p1-accepted : checkOf (p1 .jobs) ≡ Passed
 unfolding lastOf isNext inLimits recordCheck recordsCheck checkOf

@@ -8,6 +8,7 @@ pub mod Course
 pub mod Running
 pub mod Spans
 pub mod Tracing
+pub mod Forward
 pub mod Legality
 pub mod Reading
 pub mod Claims

@@ -64,6 +64,12 @@ module _ (t : Table) (times : List ℕ) where
   completion-settled u n h zero = rw add-zero
   completion-settled u n h (suc m) = rw add-suc (completion-idle u (n + m) (entry-settled n h m) ∙ completion-settled u n h m)
 
+-- ---- what further ticks leave as it is, at the limit on times
+pub at-limit : {A : Type 0} (f : ℕ → A) (n : ℕ) → ((m : ℕ) → f (n + m) ≡ f n) → n ≤ lastTime → f lastTime ≡ f n
+at-limit f n stays l =
+    let e : n + (lastTime - n) ≡ lastTime = omega (arith, l) in
+    subst (λ (k : ℕ). f k ≡ f n) e (stays (lastTime - n))
+
 -- ---- an accepted set and its running times
 abbrev pub lastRelease : ℕ
 lastRelease = maxRelease + maxJobs * maxTime
@@ -160,9 +166,7 @@ module _ (js : List Job) (times : List ℕ) (passed : machineCheck js times ≡ 
       reached-limit = omega (arith, r .early, r .rest, work-limit)
 
       pub reached-finish : finish t times ≡ stateOf time work
-      reached-finish =
-          let e : time + (lastTime - time) ≡ lastTime = omega (arith, reached-limit) in
-          subst (λ (n : ℕ). after t times n ≡ stateOf time work) e (after-settled t times time reached-settled (lastTime - time) ∙ r .here)
+      reached-finish = at-limit (after t times) time (after-settled t times time reached-settled) reached-limit ∙ r .here
 
   -- ---- completions
   pub noted-start : Noted js times (replicate maxJobs 0) 0
@@ -183,17 +187,18 @@ module _ (js : List Job) (times : List ℕ) (passed : machineCheck js times ≡ 
     pub noted-idle : entry t times time ≡ idle → Noted js times column (time + 1)
     noted-idle e = record { long = h .long; each = λ v. h .each v ∙ rw add-one (sym (completion-idle t times v time e)) }
 
-    pub noted-all : {work : List ℕ} {left : ℕ} → Reached js times work left time → left ≤ 0 → column ≡ completions t times
+    pub noted-settled : allComplete times (after t times time .work) (length js) ≡ true → time ≤ lastTime → column ≡ completions t times
     unfolding completions
-    noted-all {work} {left} r none =
-        let e : time + (lastTime - time) ≡ lastTime = omega (arith, reached-limit r none) in
+    noted-settled settled early =
         ext-getD 0 column (tabulate 0 maxJobs (λ u. completion t times u lastTime)) (h .long ∙ sym (length-tabulate 0 maxJobs (λ u. completion t times u lastTime)))
         (λ u l.
         h .each u
-        ∙ sym (completion-settled t times u time (reached-settled r none) (lastTime - time))
-        ∙ ap (completion t times u) e
+        ∙ sym (at-limit (completion t times u) time (completion-settled t times u time settled) early)
         ∙ ap (λ (k : ℕ). completion t times k lastTime) (sym (zero-add u))
         ∙ sym (getD-tabulate 0 maxJobs (λ k. completion t times k lastTime) 0 u (omega (arith, h .long))))
+
+    pub noted-all : {work : List ℕ} {left : ℕ} → Reached js times work left time → left ≤ 0 → column ≡ completions t times
+    noted-all r none = noted-settled (reached-settled r none) (reached-limit r none)
 
   pub run-done : (end : ℕ) (work column : List ℕ) → finish t times ≡ stateOf end work → column ≡ completions t times
       → _≡_ {A = Completed} (record { check = Passed; completions = column; end = end }) (runOf js times)

@@ -34,7 +34,7 @@ use Rattle.machine.specs.Ticks.{allComplete}
 use Rattle.machine.specs.Runs.{after, entry}
 use Rattle.machine.specs.Traces.{goesOn, extended, spans, row, rows, roomFor, traceCheck, traced, traceOf, tracedIn}
 use Rattle.machine.specs.Private.{putAt}
-use Rattle.machine.proofs.Running.{lastRelease, few-jobs, released-by, entry-settled, Reached, reached-settled, reached-limit}
+use Rattle.machine.proofs.Running.{at-limit, lastRelease, few-jobs, released-by, entry-settled, Reached, reached-settled, reached-limit}
 use Rattle.machine.proofs.Spans.{spans-within-twice}
 
 -- ---- four numbers stored one after the other
@@ -172,6 +172,20 @@ module _ (js : List Job) (u time : ℕ) where
   pub put-stored : (ss : List Span) (last : Span) (n : ℕ) → last ≡ latest ss → n ≡ length ss → Stored js ss u time (putAt last n u time)
   put-stored ss last n e f = rw (e, f) (stored-here ss)
 
+-- ---- spans, one tick more
+module _ (t : Table) (times : List ℕ) where
+  spans-ran : (u time : ℕ) → entry t times time ≡ runs u → spans t times (time + 1) ≡ extended (spans t times time) u time
+  unfolding spans
+  spans-ran u time e = rw (add-one, e)
+
+  spans-idle : (time : ℕ) → entry t times time ≡ idle → spans t times (suc time) ≡ spans t times time
+  unfolding spans
+  spans-idle time e = rw e
+
+  pub spans-settled : (n : ℕ) → allComplete times (after t times n .work) (t .count) ≡ true → (m : ℕ) → spans t times (n + m) ≡ spans t times n
+  spans-settled n h zero = rw add-zero
+  spans-settled n h (suc m) = rw add-suc (spans-idle (n + m) (entry-settled t times n h m) ∙ spans-settled n h m)
+
 -- ---- the loop's head
 pub record Written (js : List Job) (times before out : List ℕ) (last : Span) (entries time : ℕ) : Type 0 where
   pub count : entries ≡ length (spans (tableOf js) times time)
@@ -186,18 +200,6 @@ module _ (js : List Job) (times before : List ℕ) where
   unfolding spans rows patched
   written-start = record { count = refl; latest-is = refl; buffer = refl }
 
-  spans-ran : (u time : ℕ) → entry t times time ≡ runs u → spans t times (time + 1) ≡ extended (spans t times time) u time
-  unfolding spans
-  spans-ran u time e = rw (add-one, e)
-
-  spans-idle : (time : ℕ) → entry t times time ≡ idle → spans t times (suc time) ≡ spans t times time
-  unfolding spans
-  spans-idle time e = rw e
-
-  spans-settled : (n : ℕ) → allComplete times (after t times n .work) (t .count) ≡ true → (m : ℕ) → spans t times (n + m) ≡ spans t times n
-  spans-settled n h zero = rw add-zero
-  spans-settled n h (suc m) = rw add-suc (spans-idle (n + m) (entry-settled t times n h m) ∙ spans-settled n h m)
-
   module _ (passed : machineCheck js times ≡ Passed) (room : 8 * length js ≤ length before) {out : List ℕ} {last : Span} {entries time : ℕ}
       (w : Written js times before out last entries time) where
     few-spans : (n : ℕ) → length (spans t times n) ≤ 2 * length js
@@ -211,7 +213,7 @@ module _ (js : List Job) (times before : List ℕ) where
 
     pub written-idle : entry t times time ≡ idle → Written js times before out last entries (time + 1)
     written-idle e =
-        let q : spans t times (time + 1) ≡ spans t times time = rw add-one (spans-idle time e) in
+        let q : spans t times (time + 1) ≡ spans t times time = rw add-one (spans-idle t times time e) in
         record { count = w .count ∙ ap length (sym q); latest-is = w .latest-is ∙ ap latest (sym q); buffer = w .buffer ∙ ap (λ (l : List Span). patched before 0 (rows js l)) (sym q) }
 
     -- the job at u runs
@@ -220,15 +222,15 @@ module _ (js : List Job) (times before : List ℕ) where
       here = subst (Stored js (spans t times time) u time) (sym q) (put-stored js u time (spans t times time) last entries (w .latest-is) (w .count))
 
       pub put-room : 4 * p .entry + 3 < length out
-      put-room = omega (arith, here .below, here .entries-is, ap length (spans-ran u time e), few-spans (time + 1), written-length)
+      put-room = omega (arith, here .below, here .entries-is, ap length (spans-ran t times u time e), few-spans (time + 1), written-length)
 
       pub put-few : 4 * p .entry + 3 < 8 * maxJobs
-      put-few = omega (arith, here .below, here .entries-is, ap length (spans-ran u time e), few-spans (time + 1), few-jobs js times passed)
+      put-few = omega (arith, here .below, here .entries-is, ap length (spans-ran t times u time e), few-spans (time + 1), few-jobs js times passed)
 
       pub written-ran : (chain job : ℕ) → chain ≡ jobAt js u .chain → job ≡ jobAt js u .job
           → Written js times before (set (set (set (set out (4 * p .entry) chain) (4 * p .entry + 1) job) (4 * p .entry + 2) (p .span .from)) (4 * p .entry + 3) (p .span .to)) (p .span) (p .entries) (time + 1)
       written-ran chain job c j =
-          let s = spans-ran u time e in
+          let s = spans-ran t times u time e in
           let k = 4 * p .entry in
           let c' : chain ≡ jobAt js (p .span .at) .chain = c ∙ ap (λ (i : ℕ). jobAt js i .chain) (sym (here .job-is)) in
           let j' : job ≡ jobAt js (p .span .at) .job = j ∙ ap (λ (i : ℕ). jobAt js i .job) (sym (here .job-is)) in
@@ -244,9 +246,7 @@ module _ (js : List Job) (times before : List ℕ) where
     -- the end
     module _ {work : List ℕ} {left : ℕ} (r : Reached js times work left time) (none : left ≤ 0) where
       whole : traced js times ≡ spans t times time
-      whole =
-          let e : time + (lastTime - time) ≡ lastTime = omega (arith, reached-limit js times passed r none) in
-          subst (λ (n : ℕ). spans t times n ≡ spans t times time) e (spans-settled time (reached-settled js times passed r none) (lastTime - time))
+      whole = at-limit (spans t times) time (spans-settled t times time (reached-settled js times passed r none)) (reached-limit js times passed r none)
 
       pub written-count : entries ≡ length (traced js times)
       written-count = w .count ∙ ap length (sym whole)

@@ -1,7 +1,7 @@
 -- `most_times` ends, and its array has a place for each job. Assumes nothing.
-use Prim.Native.Nat.{_-_, _≤_}
-use mathlib.Core.Path.{_≡_, sym, _∙_}
-use lib.ListN.{length, length-set}
+use Prim.Native.Nat.{_-_}
+use mathlib.Core.Path.{_≡_}
+use lib.ListN.{length}
 use borrow.Author.Needs.{needs}
 use Rattle.jobs.specs.Limits.{maxJobs}
 use Rattle.cases.proofs.traces.most_times.Statement.{statement}

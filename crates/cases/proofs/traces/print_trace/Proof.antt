@@ -1,13 +1,8 @@
 -- `print_trace` lends as many times as the set has jobs. Assumes nothing.
-use Prim.Native.Nat.{ℕ, _≤_}
-use mathlib.Core.Path.{_≡_, sym, subst}
-use lib.Seq.{length-take-le}
 use borrow.Author.Needs.{needs}
+use Rattle.cases.proofs.Lending.{length-lent}
 use Rattle.cases.proofs.traces.print_trace.Statement.{statement}
 use Rattle.cases.proofs.traces.print_trace.Tie as tie
-
-up-to : {a b c : ℕ} → b ≡ c → a ≤ b → a ≤ c
-up-to {a} p = subst (λ n. a ≤ n) p
 
 set-of-requires : tie.Need-set-of-requires
 set-of-requires c κs = search needs
@@ -19,7 +14,7 @@ array-share-prefix-times : tie.Need-array-share-prefix-times
 array-share-prefix-times c = search needs
 
 slice-aggregate-print-run : tie.Need-slice-aggregate-print-run
-slice-aggregate-print-run c = sym (length-take-le _ (c .before .before .most-times .result) (up-to (c .before .before .most-times .ensures) (c .before .if1 .taken)))
+slice-aggregate-print-run c = length-lent (c .before .before .most-times .result) (c .before .before .most-times .ensures) (c .before .if1 .taken)
 
 slice-aggregate-print-run-2 : tie.Need-slice-aggregate-print-run-2
 slice-aggregate-print-run-2 c = search needs
