@@ -7,3 +7,4 @@ pub mod RowTexts
 pub mod RowsTexts
 pub mod EntryTexts
 pub mod TextAnswers
+pub mod TraceTexts
