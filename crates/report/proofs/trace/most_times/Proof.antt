@@ -6,7 +6,7 @@ use borrow.Author.Needs.{needs}
 use Rattle.laws.specs.Places.{tabulate, padded}
 use Rattle.laws.proofs.Filling.{filled-none, filled-next}
 use Rattle.jobs.specs.Limits.{maxJobs}
-use Rattle.report.proofs.TraceTexts.{mostAt, most-tabulated}
+use Rattle.report.proofs.MostTimes.{mostAt, most-tabulated}
 use Rattle.report.proofs.trace.most_times.Statement.{statement}
 use Rattle.report.proofs.trace.most_times.Tie as tie
 

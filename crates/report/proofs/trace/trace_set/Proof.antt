@@ -8,7 +8,8 @@ use borrow.Author.Needs.{needs}
 use Rattle.jobs.specs.Jobs.{jobsOf}
 use Rattle.jobs.proofs.Sets.{length-jobs}
 use Rattle.jobs.proofs.Accepted.{accepted}
-use Rattle.report.proofs.TraceTexts.{most-lent, most-room, Ran, most-ran, ran-not-refused, ran-fits, ran-text}
+use Rattle.report.proofs.MostTimes.{most-lent, most-room}
+use Rattle.report.proofs.TraceTexts.{Ran, most-ran, ran-not-refused, ran-fits, ran-text}
 use Rattle.report.proofs.trace.trace_set.Statement.{statement}
 use Rattle.report.proofs.trace.trace_set.Tie as tie
 
