@@ -1,4 +1,4 @@
-/* Cudlomer: how late each job of a job table can be complete.
+/* Cudlomer: how late each job of a job table can be complete, and when each runs.
  *
  * A table is text: the header line `chain,job,release,priority,least,most,deadline`, then a line for each job, each line ended by CR LF, which
  * the last may lack. Times are ticks of 100 microseconds; a greater priority number is more urgent. There are at most 64 jobs, 16 chains and
@@ -33,6 +33,12 @@ extern "C" {
  * by the algorithms ERT, CJA and ITR, and its deadline less the ITR bound. Answers how many bytes were written; what the buffer holds after
  * them stays. 8,192 bytes are enough for every table. */
 int64_t cudlomer_bounds(const uint8_t *text, size_t text_length, uint8_t *out, size_t out_length);
+
+/* Writes `chain,job,from,to` and a row for each longest run of one job, the earliest first, with CR LF, into the buffer: when the machine runs
+ * the jobs from time 0, each for its most time. Answers how many bytes were written; what the buffer holds after them stays. 4,096 bytes are
+ * enough for every table. The machine goes from tick to tick, idle ticks too, at some 10 nanoseconds for each tick and job: 64 jobs that are
+ * released at 1,000,000,000 take minutes. */
+int64_t cudlomer_trace(const uint8_t *text, size_t text_length, uint8_t *out, size_t out_length);
 
 /* Answers 1 where each job's bound is at or before its deadline, and 0 where one is not; the algorithm is 1 ERT, 2 CJA or 3 ITR. */
 int64_t cudlomer_verdict(const uint8_t *text, size_t text_length, uint8_t algorithm);

@@ -2,7 +2,7 @@
 ghost use mathlib.Core.Path.{_≡_};
 ghost use lib.IntN.{pos, negℤ};
 ghost use Rattle.jobs.specs.Refusals.{numberOf};
-ghost use Rattle.report.specs.Texts.{boundsAnswer, boundsLeft};
+ghost use Rattle.report.specs.Texts.{boundsAnswer, boundsLeft, traceAnswer, traceLeft};
 ghost use Rattle.cudlomer.specs.Codes.{refusalCode, writtenCode, verdictCode, verdictOfTable, roundsOfTable};
 use analysis::answer::Verdict;
 use analysis::itr::itr;
@@ -10,6 +10,7 @@ use analysis::verdict::verdict;
 use jobs::refusal::Check;
 use jobs::refusal::Refusal;
 use report::bounds::bounds_text;
+use report::trace::trace_text;
 use report::written::Written;
 
 // A refusal as C sees it.
@@ -35,6 +36,14 @@ pub extern "C" fn cudlomer_bounds(text: &[u8], out: &mut [u8]) -> i64
     ensures { λ r. ⌜ (r ≡ writtenCode (boundsAnswer (now (text .entry)) (now (out .entry)))) × (now (out .exit) ≡ boundsLeft (now (text .entry)) (now (out .entry))) ⌝ }
 {
     code_of(bounds_text(text, out))
+}
+
+// Writes the trace text of a table into out, and answers the bytes written.
+#[no_mangle]
+pub extern "C" fn cudlomer_trace(text: &[u8], out: &mut [u8]) -> i64
+    ensures { λ r. ⌜ (r ≡ writtenCode (traceAnswer (now (text .entry)) (now (out .entry)))) × (now (out .exit) ≡ traceLeft (now (text .entry)) (now (out .entry))) ⌝ }
+{
+    code_of(trace_text(text, out))
 }
 
 // Answers 1 where all deadlines are met by the algorithm 1 ERT, 2 CJA or 3 ITR, and 0 where they are not.

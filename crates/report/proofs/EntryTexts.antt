@@ -7,7 +7,7 @@ use lib.ListN.{length, length-append}
 use Rattle.laws.proofs.Pieces.{Made, PiecesWritten}
 use Rattle.report.specs.Columns.{columnsText}
 use Rattle.report.specs.Refusals.{lineEnd}
-use Rattle.report.specs.Entries.{entryValues, entryText, entriesText}
+use Rattle.report.specs.Private.{entryValues, entryText, entriesText}
 
 pub entry-length : (numbers : List ℕ) (n : ℕ) → length (entryText numbers n) ≡ length (columnsText (entryValues numbers n)) + 2
 unfolding entryText

@@ -7,3 +7,5 @@ pub mod RowTexts
 pub mod RowsTexts
 pub mod EntryTexts
 pub mod TextAnswers
+pub mod MostTimes
+pub mod TraceTexts

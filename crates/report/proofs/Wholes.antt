@@ -8,7 +8,7 @@ use Rattle.laws.specs.Buffers.{patched}
 use Rattle.laws.proofs.Buffers.{Wrote}
 use Rattle.decimal.proofs.Writing.{Writes, writes-fits}
 
-patched-start : (b text : List ℕ) → patched b 0 text ≡ text ++ drop (length text) b
+pub patched-start : (b text : List ℕ) → patched b 0 text ≡ text ++ drop (length text) b
 unfolding patched
 patched-start b text = ap (λ (n : ℕ). text ++ drop n b) (zero-add (length text))
 

@@ -1,21 +1,19 @@
 -- Rows of the trace text. Document 01, "Programs and the C side".
---   entryValues   the four numbers of entry n: chain, job, from, to
---   entryText     the row of entry n
---   entriesText   the rows of the first n entries
+--   spanText    the row of a span: chain, job, from, to
+--   spansText   the rows of spans, the earliest first
 -- Assumes nothing.
-use Prim.Native.Nat.{ℕ, zero, suc, _+_, _*_}
+use Prim.Native.Nat.{ℕ}
 use mathlib.Core.List.{List, [], _∷_, _++_}
-use lib.ListN.{getD}
+use Rattle.jobs.specs.declared.job.Job.{Job}
+use Rattle.machine.specs.declared.trace.Span.{Span}
+use Rattle.machine.specs.Traces.{row}
 use Rattle.report.specs.Columns.{columnsText}
 use Rattle.report.specs.Refusals.{lineEnd}
 
-abbrev pub entryValues : List ℕ → ℕ → List ℕ
-entryValues numbers n =
-    getD numbers (4 * n) 0 ∷ getD numbers (4 * n + 1) 0 ∷ getD numbers (4 * n + 2) 0 ∷ getD numbers (4 * n + 3) 0 ∷ []
+unfoldable pub spanText : List Job → Span → List ℕ
+spanText js s = columnsText (row js s) ++ lineEnd
 
-unfoldable pub entryText : List ℕ → ℕ → List ℕ
-entryText numbers n = columnsText (entryValues numbers n) ++ lineEnd
-
-unfoldable pub entriesText : List ℕ → ℕ → List ℕ
-entriesText numbers zero = []
-entriesText numbers (suc n) = entriesText numbers n ++ entryText numbers n
+-- The latest span stands first in the list.
+unfoldable pub spansText : List Job → List Span → List ℕ
+spansText js [] = []
+spansText js (s ∷ ss) = spansText js ss ++ spanText js s

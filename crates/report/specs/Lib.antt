@@ -2,4 +2,5 @@ pub mod Columns
 pub mod Refusals
 pub mod Rows
 pub mod Entries
+pub mod Private
 pub mod Texts

@@ -1,12 +1,15 @@
 -- Whole texts in a lent buffer. Document 01, "Programs and the C side", and number 9.
 --   boundsText                 the bounds text of a list of jobs
+--   mostTimes                  the most time of each job
+--   traceText                  the trace text of a list of jobs
 --   answerTo                   how many bytes a text takes in a buffer, or refusal 9
 --   answerAfter, leftAfter     the answer and the buffer, where a check comes before
 --   boundsAnswer, boundsLeft   the same for the bounds text of a table
+--   traceAnswer, traceLeft     the same for the trace text of a table
 -- Assumes nothing.
 use Prim.Native.Nat.{ℕ}
 use mathlib.Core.Bool.{cond}
-use mathlib.Core.List.{List, _++_}
+use mathlib.Core.List.{List, _++_, map}
 use lib.Dec.{leb}
 use lib.ListN.{length}
 use Rattle.laws.specs.Text.{ascii}
@@ -21,9 +24,11 @@ use Rattle.theory.specs.Releases.{tableOf}
 use Rattle.theory.specs.Bounds.{ert, cja}
 use Rattle.theory.specs.Rounds.{itr}
 use Rattle.theory.specs.Verdicts.{slacks}
+use Rattle.machine.specs.Traces.{traced}
 use Rattle.report.specs.declared.written.Written.{Written}
 use Rattle.report.specs.declared.written.Written.the-variants.{Bytes, Refused}
 use Rattle.report.specs.Rows.{boundsRows}
+use Rattle.report.specs.Entries.{spansText}
 
 abbrev pub boundsHeader : List ℕ
 boundsHeader = ascii "chain,job,ert,cja,itr,slack\r\n"
@@ -33,6 +38,17 @@ unfoldable pub boundsText : List Job → List ℕ
 boundsText js =
     let t = tableOf js in
     boundsHeader ++ boundsRows js (ert t) (cja t) (itr t .bounds) (slacks js) (length js)
+
+abbrev pub traceHeader : List ℕ
+traceHeader = ascii "chain,job,from,to\r\n"
+
+-- In table order.
+unfoldable pub mostTimes : List Job → List ℕ
+mostTimes js = map (λ (j : Job). j .most) js
+
+-- A row for each entry of the run with all most times.
+unfoldable pub traceText : List Job → List ℕ
+traceText js = traceHeader ++ spansText js (traced js (mostTimes js))
 
 unfoldable pub answerTo : List ℕ → List ℕ → Written
 answerTo text buffer = cond (leb (length text) (length buffer)) (Bytes (length text)) (Refused ShortBuffer)
@@ -51,3 +67,9 @@ boundsAnswer table buffer = let reading = readingOf table in answerAfter (readin
 
 unfoldable pub boundsLeft : List ℕ → List ℕ → List ℕ
 boundsLeft table buffer = let reading = readingOf table in leftAfter (reading .check) (boundsText (jobsOf (reading .set))) buffer
+
+unfoldable pub traceAnswer : List ℕ → List ℕ → Written
+traceAnswer table buffer = let reading = readingOf table in answerAfter (reading .check) (traceText (jobsOf (reading .set))) buffer
+
+unfoldable pub traceLeft : List ℕ → List ℕ → List ℕ
+traceLeft table buffer = let reading = readingOf table in leftAfter (reading .check) (traceText (jobsOf (reading .set))) buffer

@@ -4,7 +4,7 @@ ghost use Prim.Native.Nat.{_+_, _*_, _≤_};
 ghost use lib.ListN.{length};
 ghost use Rattle.laws.specs.Buffers.{patched};
 ghost use Rattle.jobs.specs.Limits.{maxJobs};
-ghost use Rattle.report.specs.Entries.{entryText, entriesText};
+ghost use Rattle.report.specs.Private.{entryText, entriesText};
 use crate::columns::columns_length;
 use crate::columns::write_bytes;
 use crate::columns::write_columns;
@@ -41,10 +41,10 @@ fn write_entry(numbers: &[u64], n: usize, out: &mut [u8], place: usize) -> usize
     write_bytes(b"\r\n", out, after_columns)
 }
 
-// How many bytes the first entries take.
+// How many bytes the first entries take, at most 86 each.
 pub(crate) fn entries_length(numbers: &[u64], count: usize) -> usize
     requires { ⌜ (4 * count ≤ length (now numbers)) × (count ≤ 2 * maxJobs) ⌝ }
-    ensures { λ r. ⌜ r ≡ length (entriesText (now (numbers .entry)) count) ⌝ }
+    ensures { λ r. ⌜ (r ≡ length (entriesText (now (numbers .entry)) count)) × (r ≤ 172 * maxJobs) ⌝ }
 {
     let mut sum: usize = 0;
     let mut n: usize = 0;

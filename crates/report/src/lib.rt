@@ -5,4 +5,5 @@ pub mod entries;
 pub mod refused;
 pub mod row;
 pub mod rows;
+pub mod trace;
 pub mod written;

@@ -1,9 +1,10 @@
-// The line that a refusal prints.
+// The line that a refusal prints, and how much of a buffer a program prints.
 ghost use mathlib.Core.Path.{_≡_};
 ghost use Rattle.decimal.specs.Writing.{written, writtenLength};
-ghost use Rattle.report.specs.Refusals.{refusedText};
+ghost use Rattle.report.specs.Refusals.{refusedText, printLength, printLeft};
 use crate::columns::write_bytes;
 use crate::columns::write_column;
+use crate::written::Written;
 use decimal::count::digit_count;
 use jobs::refusal::Refusal;
 
@@ -18,4 +19,14 @@ pub fn write_refused(refusal: Refusal, out: &mut [u8]) -> usize
     let after_word = write_bytes(b"refused,", out, 0);
     let after_number = write_column(0, number, out, after_word);
     write_bytes(b"\r\n", out, after_number)
+}
+
+// How many bytes of the buffer a program prints: the text in it, or the line of a refusal, which is written first.
+pub fn print_length(answer: Written, out: &mut [u8]) -> u32
+    ensures { λ r. ⌜ (r ≡ printLength answer (now (out .entry))) × (now (out .exit) ≡ printLeft answer (now (out .entry))) ⌝ }
+{
+    match answer {
+        Written::Bytes(bytes) => bytes,
+        Written::Refused(refusal) => write_refused(refusal, out) as u32,
+    }
 }

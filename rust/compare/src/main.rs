@@ -4,7 +4,7 @@ mod draw;
 
 use cudlomer::Refused;
 use draw::{Draw, Kind};
-use reference::{bounds, table, text};
+use reference::{bounds, table, text, Job};
 
 const FILL: u8 = 0xa5;
 
@@ -45,9 +45,17 @@ fn compare_text(tally: &mut Tally, what: &str, table: &[u8], write: Writer, want
     }
 }
 
+/// Whether the run is so short that going through it tick by tick takes little time.
+fn is_short(jobs: &[Job]) -> bool {
+    jobs.iter().map(|j| j.release + j.most).sum::<u64>() <= 100_000
+}
+
 fn compare_table(tally: &mut Tally, table: &[u8]) {
     let jobs = table::read(table);
     compare_text(tally, "bounds", table, cudlomer::bounds, &jobs.as_ref().map(|j| text::bounds_text(j)).map_err(|n| *n));
+    if jobs.as_ref().map_or(true, |j| is_short(j)) {
+        compare_text(tally, "trace", table, cudlomer::trace, &jobs.as_ref().map(|j| text::trace_text(j)).map_err(|n| *n));
+    }
     let figures = jobs.as_ref().map(|j| bounds::bounds(j)).map_err(|n| *n);
     let rounds = figures.as_ref().map(|f| f.rounds).map_err(|n| *n);
     tally.same("rounds", table, cudlomer::rounds(table).map_err(|r| r.0), rounds);

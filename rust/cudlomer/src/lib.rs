@@ -2,6 +2,7 @@
 
 extern "C" {
     fn cudlomer_bounds(text: *const u8, text_length: usize, out: *mut u8, out_length: usize) -> i64;
+    fn cudlomer_trace(text: *const u8, text_length: usize, out: *mut u8, out_length: usize) -> i64;
     fn cudlomer_verdict(text: *const u8, text_length: usize, algorithm: u8) -> i64;
     fn cudlomer_rounds(text: *const u8, text_length: usize) -> i64;
 }
@@ -18,6 +19,11 @@ fn answer(value: i64) -> Result<u64, Refused> {
 pub fn bounds(text: &[u8], out: &mut [u8]) -> Result<usize, Refused> {
     // The function reads and writes within the two slices.
     answer(unsafe { cudlomer_bounds(text.as_ptr(), text.len(), out.as_mut_ptr(), out.len()) }).map(|n| n as usize)
+}
+
+/// Writes the trace text of a table into a buffer, and answers how many bytes it takes.
+pub fn trace(text: &[u8], out: &mut [u8]) -> Result<usize, Refused> {
+    answer(unsafe { cudlomer_trace(text.as_ptr(), text.len(), out.as_mut_ptr(), out.len()) }).map(|n| n as usize)
 }
 
 /// Whether all deadlines of a table are met, by algorithm 1 ERT, 2 CJA or 3 ITR.

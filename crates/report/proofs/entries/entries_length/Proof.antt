@@ -4,7 +4,7 @@ use mathlib.Core.Path.{_≡_, refl, ap, _∙_}
 use native.Mathlib.Omega.{arith}
 use lib.ListN.{length, length-append}
 use borrow.Author.Needs.{needs}
-use Rattle.report.specs.Entries.{entryText, entriesText}
+use Rattle.report.specs.Private.{entryText, entriesText}
 use Rattle.report.proofs.EntryTexts.{entries-made}
 use Rattle.report.proofs.entries.entries_length.Statement.{statement}
 use Rattle.report.proofs.entries.entries_length.Tie as tie
@@ -43,7 +43,7 @@ loop-again c =
 returns : tie.Need-returns Inv-loop μ-loop
 returns c =
     let l = c .before .loop in
-    l .inv .2 ∙ ap (λ (n : ℕ). length (entriesText (c .before .before .before .args .numbers .now) n)) (omega (arith, l .inv .0))
+    (l .inv .2 ∙ ap (λ (n : ℕ). length (entriesText (c .before .before .before .args .numbers .now) n)) (omega (arith, l .inv .0)), omega (arith, l .inv .0, l .inv .1, c .before .before .before .pre .1))
 
 pub entries-length-spec : {M : Type 1} → statement M
 entries-length-spec =

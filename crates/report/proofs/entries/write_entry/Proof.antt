@@ -5,7 +5,7 @@ use borrow.Author.Needs.{needs}
 use Rattle.laws.proofs.Buffers.{Wrote, wrote-none, wrote-more, wrote-room, wrote-length}
 use Rattle.report.specs.Columns.{columnsText}
 use Rattle.report.specs.Refusals.{lineEnd}
-use Rattle.report.specs.Entries.{entryValues, entryText}
+use Rattle.report.specs.Private.{entryValues, entryText}
 use Rattle.report.proofs.EntryTexts.{entry-length, entry-pieces}
 use Rattle.report.proofs.entries.write_entry.Statement.{statement}
 use Rattle.report.proofs.entries.write_entry.Tie as tie

@@ -1,0 +1,80 @@
+-- The most times of a set, as the code has them in an array; the machine takes those of an accepted set. Assumes nothing.
+use Prim.Native.Nat.{ℕ, zero, suc, _≤_, _<_}
+use mathlib.Core.Bool.{Bool, true}
+use mathlib.Core.List.{List, [], _∷_, map}
+use mathlib.Core.Path.{_≡_, refl, sym, ap, _∙_}
+use native.Mathlib.Omega.{arith}
+use lib.Dec.{eqb}
+use lib.ListN.{length, take, getD, length-map}
+use lib.Seq.{take-at}
+use borrow.Author.Tests.{eq-eqb, le-leb}
+use Rattle.laws.specs.Places.{tabulate, padded}
+use Rattle.laws.proofs.Lists.{length-padded}
+use Rattle.laws.proofs.Tests.{and-both}
+use Rattle.jobs.specs.declared.job.Job.{Job}
+use Rattle.jobs.specs.declared.set.JobSet.{JobSet}
+use Rattle.jobs.specs.declared.refusal.Check.the-variants.{Passed}
+use Rattle.jobs.specs.Limits.{maxJobs}
+use Rattle.jobs.specs.Jobs.{noJob, jobsOf}
+use Rattle.jobs.specs.Checks.{checkOf}
+use Rattle.jobs.specs.Accepted.{jobAt}
+use Rattle.jobs.proofs.Sets.{length-jobs}
+use Rattle.jobs.proofs.Accepted.{accepted}
+use Rattle.theory.specs.Releases.{tableOf}
+use Rattle.machine.specs.Every.{everyBelow}
+use Rattle.machine.specs.Times.{inRange, timesFit, machineCheck}
+use Rattle.machine.proofs.RunningTimes.{times-passed}
+use Rattle.report.specs.Texts.{mostTimes}
+
+map-tabulate : {A B : Type 0} (f : A → B) (i n : ℕ) (g : ℕ → A) → map f (tabulate i n g) ≡ tabulate i n (λ k. f (g k))
+unfolding tabulate
+map-tabulate f i zero g = refl
+map-tabulate {B = B} f i (suc n) g = ap (λ (l : List B). f (g i) ∷ l) (map-tabulate f (suc i) n g)
+
+-- the most time at a place, as the code reads it
+abbrev pub mostAt : JobSet → ℕ → ℕ
+mostAt s i = getD (s .jobs) i noJob .most
+
+pub most-tabulated : (s : JobSet) → tabulate 0 (s .count) (mostAt s) ≡ mostTimes (jobsOf s)
+unfolding mostTimes jobsOf
+most-tabulated s = sym (map-tabulate (λ (j : Job). j .most) 0 (s .count) (λ i. getD (s .jobs) i noJob))
+
+length-most : (js : List Job) → length (mostTimes js) ≡ length js
+unfolding mostTimes
+length-most js = length-map js (λ (j : Job). j .most)
+
+most-at : (js : List Job) (i : ℕ) → getD (mostTimes js) i 0 ≡ jobAt js i .most
+unfolding mostTimes
+most-at [] i = refl
+most-at (j ∷ js) zero = refl
+most-at (j ∷ js) (suc i) = most-at js i
+
+-- the first places of the array are the list
+pub most-lent : (s : JobSet) (most : List ℕ) → most ≡ padded maxJobs 0 (mostTimes (jobsOf s)) → take (s .count) most ≡ mostTimes (jobsOf s)
+most-lent s most e = rw e (take-at (mostTimes (jobsOf s)) _ (s .count) (length-most (jobsOf s) ∙ length-jobs s))
+
+-- the array has a place for each job
+pub most-room : (s : JobSet) (most : List ℕ) → checkOf (jobsOf s) ≡ Passed → most ≡ padded maxJobs 0 (mostTimes (jobsOf s)) → s .count ≤ length most
+most-room s most passed e =
+    let few : length (mostTimes (jobsOf s)) ≤ maxJobs = omega (arith, length-most (jobsOf s), accepted (jobsOf s) passed .few) in
+    omega (arith, ap length e, length-padded maxJobs 0 (mostTimes (jobsOf s)) few, length-most (jobsOf s), length-jobs s)
+
+every-all : (f : ℕ → Bool) (n : ℕ) → ((i : ℕ) → i < n → f i ≡ true) → everyBelow n f ≡ true
+unfolding everyBelow
+every-all f zero h = refl
+every-all f (suc n) h = and-both (everyBelow n f) (f n) (every-all f n (λ i l. h i (omega arith))) (h n (omega arith))
+
+module _ (js : List Job) (passed : checkOf js ≡ Passed) where
+  most-in-range : (i : ℕ) → i < length js → inRange (tableOf js) (mostTimes js) i ≡ true
+  unfolding inRange
+  most-in-range i l = rw (most-at js i, le-leb (jobAt js i .least) (jobAt js i .most) (accepted js passed .limits i l .range), le-leb (jobAt js i .most) (jobAt js i .most) (omega arith))
+
+  most-fit : timesFit (tableOf js) (mostTimes js) ≡ true
+  unfolding timesFit
+  most-fit =
+      and-both (eqb (length (mostTimes js)) (length js)) (everyBelow (length js) (inRange (tableOf js) (mostTimes js)))
+      (eq-eqb (length (mostTimes js)) (length js) (length-most js))
+      (every-all (inRange (tableOf js) (mostTimes js)) (length js) most-in-range)
+
+  pub most-passed : machineCheck js (mostTimes js) ≡ Passed
+  most-passed = times-passed js (mostTimes js) most-fit passed

@@ -1,0 +1,98 @@
+-- The trace text: the numbers that the machine leaves for the most times of an accepted set, read as rows. Assumes nothing.
+use Prim.Native.Nat.{ℕ, _*_, _≤_}
+use mathlib.Core.List.{List, [], _∷_, _++_, append-assoc}
+use mathlib.Core.Path.{_≡_, refl, sym, ap, ap₂, _∙_}
+use native.Mathlib.Omega.{arith}
+use lib.ListN.{length, drop}
+use lib.Seq.{getD-append-seam, getD-append-add}
+use Rattle.laws.specs.Buffers.{patched}
+use Rattle.jobs.specs.declared.job.Job.{Job}
+use Rattle.jobs.specs.declared.refusal.Refusal.{Refusal}
+use Rattle.jobs.specs.declared.refusal.Check.the-variants.{Passed}
+use Rattle.jobs.specs.Limits.{maxJobs}
+use Rattle.jobs.specs.Checks.{checkOf}
+use Rattle.jobs.specs.Accepted.{jobAt}
+use Rattle.jobs.proofs.Accepted.{accepted}
+use Rattle.machine.specs.declared.trace.Span.{Span}
+use Rattle.machine.specs.declared.trace.Traced.{Traced}
+use Rattle.machine.specs.declared.trace.Traced.the-variants.{Entries, Refused as RefusedTrace}
+use Rattle.machine.specs.Traces.{row, rows, traced, traceOf, tracedIn}
+use Rattle.machine.proofs.Tracing.{rows-length, trace-written, traced-length}
+use Rattle.machine.proofs.Claims.{trace-within-twice}
+use Rattle.report.specs.Columns.{columnsText}
+use Rattle.report.specs.Refusals.{lineEnd}
+use Rattle.report.specs.Entries.{spanText, spansText}
+use Rattle.report.specs.Private.{entryValues, entryText, entriesText}
+use Rattle.report.specs.Texts.{mostTimes, traceHeader, traceText}
+use Rattle.report.proofs.Wholes.{patched-start}
+use Rattle.report.proofs.MostTimes.{most-passed}
+
+-- ---- rows
+four-read : (w x y z : ℕ) (before rest : List ℕ) (n : ℕ) → length before ≡ 4 * n → entryValues (before ++ (w ∷ x ∷ y ∷ z ∷ rest)) n ≡ w ∷ x ∷ y ∷ z ∷ []
+four-read w x y z before rest n e =
+    let all = w ∷ x ∷ y ∷ z ∷ rest in
+    rw (← e, getD-append-seam before w (x ∷ y ∷ z ∷ rest) 0, getD-append-add before all 1 0, getD-append-add before all 2 0, getD-append-add before all 3 0)
+
+entry-span : (js : List Job) (s : Span) (before rest : List ℕ) (n : ℕ) → length before ≡ 4 * n → entryText (before ++ (row js s ++ rest)) n ≡ spanText js s
+unfolding entryText spanText
+entry-span js s before rest n e =
+    let j = jobAt js (s .at) in
+    ap (λ (values : List ℕ). columnsText values ++ lineEnd) (four-read (j .chain) (j .job) (s .from) (s .to) before rest n e)
+
+entries-spans : (js : List Job) (ss : List Span) (rest : List ℕ) → entriesText (rows js ss ++ rest) (length ss) ≡ spansText js ss
+unfolding entriesText spansText rows
+entries-spans js [] rest = refl
+entries-spans js (s ∷ ss) rest =
+    rw (append-assoc (rows js ss) (row js s) rest)
+    (ap₂ (λ (a b : List ℕ). a ++ b) (entries-spans js ss (row js s ++ rest)) (entry-span js s (rows js ss) rest (length ss) (rows-length js ss)))
+
+-- a buffer that begins with the rows of spans
+pub rows-text : (js : List Job) (ss : List Span) (buffer : List ℕ) → entriesText (patched buffer 0 (rows js ss)) (length ss) ≡ spansText js ss
+rows-text js ss buffer = rw (patched-start buffer (rows js ss)) (entries-spans js ss (drop (length (rows js ss)) buffer))
+
+-- ---- the machine's answer
+abbrev countOf : Traced → ℕ
+countOf (Entries n) = n
+countOf (RefusedTrace r) = 0
+
+-- the machine has left the trace of the run with all most times
+pub record Ran (js : List Job) (answer : Traced) (numbers : List ℕ) : Type 0 where
+  pub count : answer ≡ Entries (length (traced js (mostTimes js)))
+  pub few : length (traced js (mostTimes js)) ≤ 2 * maxJobs
+  pub room : 4 * length (traced js (mostTimes js)) ≤ length numbers
+  pub text : entriesText numbers (length (traced js (mostTimes js))) ≡ spansText js (traced js (mostTimes js))
+
+-- the most times of an accepted set, and a buffer with room for every trace
+pub most-ran : (js : List Job) → checkOf js ≡ Passed → (times : List ℕ) → times ≡ mostTimes js → (buffer : List ℕ) → 8 * maxJobs ≤ length buffer
+    → {answer : Traced} {numbers : List ℕ} → (answer ≡ traceOf js times (length buffer)) × (numbers ≡ tracedIn js times buffer) → Ran js answer numbers
+most-ran js accepts times is buffer room v =
+    let most = mostTimes js in
+    let passed = most-passed js accepts in
+    let large : 8 * length js ≤ length buffer = omega (arith, accepted js accepts .few) in
+    let w = trace-written js most buffer passed large in
+    let numbers-are = v .1 ∙ ap (λ (l : List ℕ). tracedIn js l buffer) is ∙ w .1 in
+    let twice = trace-within-twice js most passed in
+    record {
+      count = v .0 ∙ ap (λ (l : List ℕ). traceOf js l (length buffer)) is ∙ w .0;
+      few = omega (arith, twice, accepted js accepts .few);
+      room = omega (arith, twice, ap length numbers-are, traced-length js most buffer passed large);
+      text = ap (λ (l : List ℕ). entriesText l (length (traced js most))) numbers-are ∙ rows-text js (traced js most) buffer;
+    }
+
+module _ {js : List Job} {answer : Traced} {numbers : List ℕ} (ran : Ran js answer numbers) where
+  pub ran-not-refused : (r : Refusal) → answer ≡ RefusedTrace r → ⊥
+  ran-not-refused r e = entries-not (sym (ran .count) ∙ e)
+    where
+      entries-not : {n : ℕ} → Entries n ≡ RefusedTrace r → ⊥
+      entries-not q = let z : _≡_ {A = ℕ} 0 1 = cc in omega arith
+
+  module _ (n : ℕ) (e : answer ≡ Entries n) where
+    count-is : n ≡ length (traced js (mostTimes js))
+    count-is = ap countOf (sym e ∙ ran .count)
+
+    pub ran-fits : (4 * n ≤ length numbers) × (n ≤ 2 * maxJobs)
+    ran-fits = rw count-is (ran .room, ran .few)
+
+    pub ran-text : traceHeader ++ entriesText numbers n ≡ traceText js
+    unfolding traceText
+    ran-text = rw count-is (ap (λ (l : List ℕ). traceHeader ++ l) (ran .text))

@@ -1,0 +1,43 @@
+-- `print_length` answers `printLength` and leaves `printLeft`. Assumes nothing.
+use Prim.Native.Nat.{_≤_}
+use native.Mathlib.Omega.{arith}
+use borrow.Author.Needs.{needs}
+use Rattle.report.proofs.RefusedText.{refused-short}
+use Rattle.report.proofs.refused.print_length.Statement.{statement}
+use Rattle.report.proofs.refused.print_length.Tie as tie
+
+short : (c : tie.After-write-refused) → c .write-refused .result ≤ 30
+short c = omega (arith, c .write-refused .ensures .0, refused-short (c .before .before .before .answer2 .given .0 .0) (c .before .before .before .before .before .before .args .out .now))
+
+enum-known-answer : tie.Need-enum-known-answer
+enum-known-answer c = search needs
+
+enum-known-answer-2 : tie.Need-enum-known-answer-2
+enum-known-answer-2 c = search needs
+
+write-refused-requires : tie.Need-write-refused-requires
+write-refused-requires c κs = search needs
+
+cast-result : tie.Need-cast-result
+cast-result c = let h = short (c .before .before) in search (needs, h)
+
+returns : tie.Need-returns
+returns c = search needs
+
+same-length : tie.Need-same-length
+same-length c = search needs
+
+returns-2 : tie.Need-returns-2
+returns-2 c = rw (c .before .before .before .before .before .answer2 .given .1) (c .before .before .write-refused .ensures)
+
+pub print-length-spec : {M : Type 1} → statement M
+print-length-spec =
+    tie.close
+    (tie.spec
+    enum-known-answer
+    enum-known-answer-2
+    write-refused-requires
+    cast-result
+    returns
+    same-length
+    returns-2)

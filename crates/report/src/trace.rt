@@ -1,0 +1,82 @@
+// The trace text of a table.
+ghost use mathlib.Core.Path.{_≡_};
+ghost use mathlib.Core.List.{_++_};
+ghost use Prim.Native.Nat.{_*_, _≤_};
+ghost use lib.ListN.{length};
+ghost use Rattle.laws.specs.Places.{padded};
+ghost use Rattle.decimal.specs.Writing.{written as Decimal·written};
+ghost use Rattle.jobs.specs.Limits.{maxJobs};
+ghost use Rattle.jobs.specs.Jobs.{jobsOf};
+ghost use Rattle.jobs.specs.Checks.{checkOf};
+ghost use Rattle.report.specs.Private.{entriesText};
+ghost use Rattle.report.specs.Texts.{mostTimes, traceHeader, traceText, answerTo, traceAnswer, traceLeft};
+use crate::columns::write_bytes;
+use crate::entries::entries_length;
+use crate::entries::write_entries;
+use crate::written::Written;
+use jobs::refusal::Check;
+use jobs::refusal::Refusal;
+use jobs::set::JobSet;
+use machine::trace::Traced;
+use machine::trace::trace;
+
+const HEADER: [u8; 19] = *b"chain,job,from,to\r\n";
+
+// Four numbers for each entry, and at most twice as many entries as there are jobs.
+const MAX_NUMBERS: usize = 8 * JobSet::MAX_JOBS;
+
+// The most time of each job, and 0 in the places beyond the jobs.
+fn most_times(set: JobSet) -> [u64; JobSet::MAX_JOBS]
+    requires { ⌜ set .count ≤ maxJobs ⌝ }
+    ensures { λ r. ⌜ r ≡ padded maxJobs 0 (mostTimes (jobsOf set)) ⌝ }
+{
+    let mut times = [0u64; JobSet::MAX_JOBS];
+    let count = set.count;
+    let mut n: usize = 0;
+    while n < count {
+        times[n] = set.jobs[n].most;
+        n += 1;
+    }
+    times
+}
+
+// Writes the header and the rows; the length is worked out first, so that a short buffer stays as it was.
+fn write_trace(numbers: &[u64], count: usize, out: &mut [u8]) -> Written
+    requires { ⌜ (4 * count ≤ length (now numbers)) × (count ≤ 2 * maxJobs) ⌝ }
+    ensures { λ r. ⌜ (r ≡ answerTo (traceHeader ++ entriesText (now (numbers .entry)) count) (now (out .entry))) × (now (out .exit) ≡ Decimal·written (traceHeader ++ entriesText (now (numbers .entry)) count) (now (out .entry))) ⌝ }
+{
+    let header = HEADER;
+    let length = header.len() + entries_length(numbers, count);
+    if out.len() < length {
+        return Written::Refused(Refusal::ShortBuffer);
+    }
+    let at = write_bytes(&header, out, 0);
+    write_entries(numbers, count, out, at);
+    Written::Bytes(length as u32)
+}
+
+// The trace text of an accepted set; the machine does not refuse its most times.
+fn trace_set(set: JobSet, out: &mut [u8]) -> Written
+    requires { ⌜ checkOf (jobsOf set) ≡ Check.Passed ⌝ }
+    ensures { λ r. ⌜ (r ≡ answerTo (traceText (jobsOf set)) (now (out .entry))) × (now (out .exit) ≡ Decimal·written (traceText (jobsOf set)) (now (out .entry))) ⌝ }
+{
+    let most = most_times(set);
+    let mut numbers = [0u64; MAX_NUMBERS];
+    let count = set.count;
+    match trace(set, &most[..count], &mut numbers) {
+        Traced::Refused(refusal) => Written::Refused(refusal),
+        Traced::Entries(entries) => write_trace(&numbers, entries, out),
+    }
+}
+
+// From the text of a table to the text of the run with all most times: the refusals of reading first, then 9.
+pub fn trace_text(text: &[u8], out: &mut [u8]) -> Written
+    ensures { λ r. ⌜ (r ≡ traceAnswer (now (text .entry)) (now (out .entry))) × (now (out .exit) ≡ traceLeft (now (text .entry)) (now (out .entry))) ⌝ }
+{
+    let reading = table::reading::read(text);
+    let check = reading.check;
+    if let Check::Refused(refusal) = check {
+        return Written::Refused(refusal);
+    }
+    trace_set(reading.set, out)
+}
