@@ -66,7 +66,7 @@ fn consider<'a, 'b>(
     better_of(best, at, priority[at], chain[at])
 }
 
-// The pick of the first count jobs.
+// The pick of the first count jobs; its parts are carried one by one, which is much faster than to copy the whole.
 pub(crate) fn best_of<'a, 'b>(
     count: usize,
     chain: &'a [u64; JobSet::MAX_JOBS],
@@ -79,16 +79,29 @@ pub(crate) fn best_of<'a, 'b>(
     requires { ⌜ (count ≤ maxJobs) × (count ≤ length (now times)) ⌝ }
     ensures { λ r. ⌜ r ≡ bestOf (seen (now (chain .entry)) (now (priority .entry)) (now (release .entry))) (pickUpTo (seen (now (chain .entry)) (now (priority .entry)) (now (release .entry))) (now (times .entry)) (stateOf time (now (work .entry))) count) ⌝ }
 {
-    let mut best = Best {
-        found: false,
-        at: 0,
-        priority: 0,
-        chain: 0,
-    };
+    let mut found = false;
+    let mut at: usize = 0;
+    let mut best_priority: u64 = 0;
+    let mut best_chain: u64 = 0;
     let mut n: usize = 0;
     while n < count {
-        best = consider(best, n, chain, priority, release, times, work, time);
+        let best = Best {
+            found,
+            at,
+            priority: best_priority,
+            chain: best_chain,
+        };
+        let next = consider(best, n, chain, priority, release, times, work, time);
+        found = next.found;
+        at = next.at;
+        best_priority = next.priority;
+        best_chain = next.chain;
         n += 1;
     }
-    best
+    Best {
+        found,
+        at,
+        priority: best_priority,
+        chain: best_chain,
+    }
 }

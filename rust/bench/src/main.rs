@@ -1,6 +1,6 @@
 //! Times the proved part and the plain reference in one run, on the same tables.
 
-use reference::{table, text, Job};
+use reference::{machine, table, text, Job};
 use std::hint::black_box;
 use std::time::Instant;
 
@@ -14,6 +14,11 @@ fn load(jobs: u64, chains: u64) -> Vec<Job> {
             Job { chain: c + 1, job: j + 1, release: j * 40 + c * 3, priority: (i * 5) % 11, least: 1 + most / 2, most, deadline: 100_000 }
         })
         .collect()
+}
+
+/// The same jobs, all released at one time and each as long as given.
+fn run_load(jobs: u64, chains: u64, release: u64, most: u64) -> Vec<Job> {
+    load(jobs, chains).into_iter().map(|j| Job { release, least: most, most, ..j }).collect()
 }
 
 fn table_text(jobs: &[Job]) -> Vec<u8> {
@@ -38,8 +43,9 @@ fn time(mut call: impl FnMut()) -> f64 {
     call();
     let once = start.elapsed().as_nanos().max(1) as u64;
     let calls = (1_000_000 / once).clamp(1, 10_000);
+    let batches = (50_000_000 / (calls * once)).clamp(5, 50);
     let mut best = f64::MAX;
-    for _ in 0..100 {
+    for _ in 0..batches {
         let start = Instant::now();
         for _ in 0..calls {
             call();
@@ -49,37 +55,103 @@ fn time(mut call: impl FnMut()) -> f64 {
     best
 }
 
-fn main() {
+/// An algorithm that there is not is refused once the table is read.
+fn reading(table: &[u8]) -> f64 {
+    time(|| {
+        black_box(cudlomer::verdict(black_box(table), 9).unwrap_err());
+    })
+}
+
+/// A verdict works out the bounds of its algorithm alone, after reading.
+fn verdict(table: &[u8], algorithm: u8) -> f64 {
+    time(|| {
+        black_box(cudlomer::verdict(black_box(table), algorithm).unwrap());
+    })
+}
+
+/// What is timed of a load: reading and, with it, ERT, CJA and ITR; the same of a table of one job; the bounds text; and by the plain reference
+/// reading and the text.
+fn bounds_times(table: &[u8]) -> Vec<f64> {
     let mut buffer = vec![0u8; 16_384];
-    println!("  ns: reading, ratio | ERT, CJA, ITR, and a step of all three | reading, bounds and text together, ratio");
-    for chains in [2, 8] {
-        for jobs in [8, 16, 32, 64] {
-            let set = load(jobs, chains);
-            let table = table_text(&set);
-            let rounds = cudlomer::rounds(&table).unwrap();
-            // An algorithm that there is not is refused once the table is read.
-            let read = time(|| {
-                black_box(cudlomer::verdict(black_box(&table), 9).unwrap_err());
-            });
-            let plain_read = time(|| {
-                black_box(table::read(black_box(&table)).unwrap());
-            });
-            // A verdict works out the bounds of its algorithm alone.
-            let [ert, cja, itr] = [1, 2, 3].map(|algorithm| {
-                let verdict = time(|| {
-                    black_box(cudlomer::verdict(black_box(&table), algorithm).unwrap());
-                });
-                verdict - read
-            });
-            let step = (ert + cja + itr) / steps(jobs, chains, rounds) as f64;
-            let whole = time(|| {
-                black_box(cudlomer::bounds(black_box(&table), &mut buffer).unwrap());
-            });
-            let plain_whole = time(|| {
-                black_box(text::bounds_text(&table::read(black_box(&table)).unwrap()));
-            });
-            print!("{jobs:2} jobs, {chains} chains, {rounds} rounds: {read:6.0} {:5.2} | ", read / plain_read);
-            println!("{ert:6.0} {cja:7.0} {itr:8.0} {step:5.2} | {whole:8.0} {:5.2}", whole / plain_whole);
+    let one = table_text(&load(1, 1));
+    let mut times = vec![];
+    for t in [table, &one] {
+        times.push(reading(t));
+        times.extend([1, 2, 3].map(|algorithm| verdict(t, algorithm)));
+    }
+    times.push(time(|| {
+        black_box(cudlomer::bounds(black_box(table), &mut buffer).unwrap());
+    }));
+    times.push(time(|| {
+        black_box(table::read(black_box(table)).unwrap());
+    }));
+    times.push(time(|| {
+        black_box(text::bounds_text(&table::read(black_box(table)).unwrap()));
+    }));
+    times
+}
+
+fn print_bounds(jobs: u64, chains: u64, times: &[f64]) {
+    let [read, with_ert, with_cja, with_itr, one, one_ert, one_cja, one_itr, whole, plain_read, plain_whole] = times else { unreachable!() };
+    let rounds = cudlomer::rounds(&table_text(&load(jobs, chains))).unwrap();
+    let (ert, cja, itr) = (with_ert - read, with_cja - read, with_itr - read);
+    let sum = ert + cja + itr;
+    // With one job there is one step of each.
+    let once = one_ert + one_cja + one_itr - 3.0 * one;
+    let all = steps(jobs, chains, rounds) as f64;
+    print!("{jobs:2} jobs, {chains} chains, {rounds} rounds: {read:6.0} {:5.2} | ", read / plain_read);
+    print!("{ert:6.0} {cja:7.0} {itr:8.0} | {once:5.0} {:5.2} {:5.2} | ", (sum - once) / (all - 3.0), sum / all);
+    println!("{whole:8.0} {:5.2}", whole / plain_whole);
+}
+
+/// What is timed of runs: a busy tick, an idle one, and a busy one of the plain reference.
+fn tick_times(jobs: u64, chains: u64) -> Vec<f64> {
+    let mut buffer = vec![0u8; 4_096];
+    let busy = run_load(jobs, chains, 0, 1_000);
+    let idle = run_load(jobs, chains, 100_000, 1);
+    let mut trace = |set: &[Job], ticks: u64| {
+        let table = table_text(set);
+        let all = time(|| {
+            black_box(cudlomer::trace(black_box(&table), &mut buffer).unwrap());
+        });
+        all / ticks as f64
+    };
+    let times = [trace(&busy, jobs * 1_000), trace(&idle, 100_000 + jobs)];
+    let most: Vec<u64> = busy.iter().map(|j| j.most).collect();
+    let plain = time(|| {
+        black_box(machine::trace(black_box(&busy), &most));
+    });
+    vec![times[0], times[1], plain / (jobs * 1_000) as f64]
+}
+
+/// The least of each time over some passes, since a machine that others use is slow for seconds on end.
+fn least(measure: impl Fn(u64, u64) -> Vec<f64>, loads: &[(u64, u64)]) -> Vec<Vec<f64>> {
+    let mut best: Vec<Vec<f64>> = vec![];
+    for pass in 0..PASSES {
+        for (i, &(jobs, chains)) in loads.iter().enumerate() {
+            let times = measure(jobs, chains);
+            if pass == 0 {
+                best.push(times);
+            } else {
+                best[i].iter_mut().zip(times).for_each(|(b, t)| *b = b.min(t));
+            }
         }
+    }
+    best
+}
+
+const PASSES: usize = 5;
+
+fn main() {
+    let loads = [(8, 2), (16, 2), (32, 2), (64, 2), (8, 8), (16, 8), (32, 8), (64, 8)];
+    println!("  ns: reading, ratio | ERT, CJA, ITR | what the three calls make once, a step, a step with that | bounds with text, ratio");
+    let times = least(|jobs, chains| bounds_times(&table_text(&load(jobs, chains))), &loads);
+    for (&(jobs, chains), times) in loads.iter().zip(&times) {
+        print_bounds(jobs, chains, times);
+    }
+    println!("  ns a tick: busy, ratio | idle");
+    let loads = [(6, 2), (64, 8)];
+    for ((jobs, chains), times) in loads.iter().zip(&least(tick_times, &loads)) {
+        println!("{jobs:2} jobs, {chains} chains: {:6.1} {:5.2} | {:6.1}", times[0], times[0] / times[2], times[1]);
     }
 }
