@@ -131,8 +131,8 @@ admissionOf old new algorithm =
     let joined = withChain (jobsOf old) (jobsOf new) in
     admitted (verdictAfter (joinCheck (jobsOf old) (jobsOf new)) (verdictBy joined algorithm)) old (setOf joined)
 
--- The number of rounds in the ITR answer of n jobs: it is that of the first round whose bounds equal the previous ones, it is at most n × n × (n − 1) +
--- 2, and at most n where there is a job.
+-- The number of rounds in the ITR answer of n jobs: it is that of the first round whose bounds equal the previous ones, it is at most
+-- n × n × (n − 1) + 2, and at most n where there is a job.
 pub record Counted (t : Table) (rounds : ℕ) : Type 0 where
   pub repeats : Repeats t rounds
   pub first : (n : ℕ) → n < rounds → Repeats t n → ⊥

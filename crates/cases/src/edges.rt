@@ -27,7 +27,7 @@ fn print_traced(set: JobSet, times: &[u64], numbers: &mut [u64]) {
     print(b";");
 }
 
-// A buffer of this many numbers, all seven before.
+// A trace into a buffer of this many numbers, each of them 7 before.
 fn print_into(set: JobSet, times: &[u64], room: usize) {
     let mut numbers = [7u64; 512];
     if room <= 512 {

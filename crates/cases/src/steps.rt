@@ -14,7 +14,7 @@ use machine::state::State;
 use machine::step::Ticked;
 use machine::step::step;
 
-// The first line of the numbers, and what follows it; lending the array needs its length.
+// The first numbers, of which as many are lent as the first line has; lending the array needs its length.
 fn times_of(numbers: Numbers) -> [u64; JobSet::MAX_JOBS]
     ensures { λ r. ⌜ maxJobs ≡ length r ⌝ }
 {

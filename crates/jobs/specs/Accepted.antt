@@ -1,6 +1,7 @@
 -- What holds of the jobs of an accepted set, place by place from 0.
 --   Follows    the order of two neighbours: the chain goes on with its next job, or the next chain begins with its first
 --   Limited    the limits of one job
+--   jobAt      the job at a place, and no job beyond the last
 --   Accepted   all of it
 -- Assumes nothing.
 use Prim.Native.Nat.{ℕ, suc, _+_, _≤_, _<_}

@@ -1,4 +1,5 @@
 -- A further chain joins a set. Document 01, "Admission joins a chain as the highest-numbered one", and the last paragraph of the refusals.
+--   renumbered  a job under another chain and job number
 --   numbered    records as the jobs k, k + 1, … of the chain c
 --   withChain   a set's jobs and, behind them, the new ones as the next chain
 --   joinCheck   4 to 6 over the joined records, then 7 where there is no new one
@@ -16,7 +17,7 @@ use Rattle.jobs.specs.Refusals.{andThen}
 use Rattle.jobs.specs.Jobs.{noJob, jobsOf, setOf}
 use Rattle.jobs.specs.Checks.{recordsCheck, anyRecord}
 
--- a job under another chain and job number
+-- Its values stay.
 abbrev pub renumbered : ℕ → ℕ → Job → Job
 renumbered c k j =
     record {
@@ -39,6 +40,7 @@ withChain old new = old ++ numbered (lastOf noJob old .chain + 1) 1 new
 unfoldable pub joinCheck : List Job → List Job → Check
 joinCheck old new = andThen (recordsCheck [] (withChain old new)) (anyRecord new)
 
+-- On a refusal the old set stays.
 abbrev pub joinedBy : Check → JobSet → JobSet → Joined
 joinedBy Passed old joined = record { check = Passed; set = joined }
 joinedBy (Refused refusal) old joined = record { check = Refused refusal; set = old }

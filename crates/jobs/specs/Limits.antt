@@ -13,7 +13,7 @@ maxRelease = 1000000000
 abbrev pub maxPriority : ℕ
 maxPriority = 255
 
--- of least and most
+-- The greatest value of least and of most.
 abbrev pub maxTime : ℕ
 maxTime = 1000000
 

@@ -1,4 +1,8 @@
--- The refusals and their numbers. Document 01, "Numbers of refusal, in checking order". Assumes nothing.
+-- The refusals and their numbers. Document 01, "Numbers of refusal, in checking order".
+--   numberOf   the number of a refusal
+--   unless     one check in a sequence
+--   andThen    two checks in sequence
+-- Assumes nothing.
 use Prim.Native.Nat.{ℕ}
 use mathlib.Core.Bool.{Bool, true, false}
 use Rattle.jobs.specs.declared.refusal.Refusal.{Refusal}
@@ -19,12 +23,12 @@ numberOf ShortBuffer = 9
 numberOf UnknownAlgorithm = 10
 numberOf ImpossibleState = 11
 
--- one check in a sequence: the refusal where the test fails, else what the checks after it come to
+-- The refusal where the test fails, else what the checks after it come to.
 abbrev pub unless : Bool → Refusal → Check → Check
 unless true refusal later = later
 unless false refusal later = Refused refusal
 
--- two checks in sequence
+-- The first refusal decides.
 abbrev pub andThen : Check → Check → Check
 andThen Passed later = later
 andThen (Refused refusal) later = Refused refusal

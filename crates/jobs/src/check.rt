@@ -30,7 +30,7 @@ pub fn check_records(set: JobSet) -> Check
     Check::Passed
 }
 
-// The same, then 7.
+// The check of a set: the same, then 7.
 pub fn check(set: JobSet) -> Check
     ensures { λ r. ⌜ r ≡ checkOf (jobsOf set) ⌝ }
 {

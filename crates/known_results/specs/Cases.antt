@@ -69,11 +69,11 @@ runWith js times =
       rows = rows js (traced js times);
     }
 
--- a record of a table, in the order of its columns
+-- A record of a table, in the order of its columns.
 abbrev pub job : ℕ → ℕ → ℕ → ℕ → ℕ → ℕ → ℕ → Job
 job c k r p l m d = record { chain = c; job = k; release = r; priority = p; least = l; most = m; deadline = d }
 
--- an entry of a trace
+-- An entry of a trace.
 abbrev pub row : ℕ → ℕ → ℕ → ℕ → List ℕ
 row c k from to = c ∷ k ∷ from ∷ to ∷ []
 
@@ -85,7 +85,7 @@ pub record Case : Type 0 where
 unfoldable pub byDefinition : Case → Case
 byDefinition c = record { jobs = c .jobs; known = answersOf (c .jobs); runs = map (λ r. runWith (c .jobs) (r .times)) (c .runs) }
 
--- P2: P1 with all most times
+-- P2: P1 with all most times.
 abbrev pub p2 : KnownRun
 p2 =
     record {
@@ -96,7 +96,7 @@ p2 =
       rows = row 1 1 0 30 ++ row 2 1 30 40 ++ row 1 1 40 50 ++ row 1 2 50 60 ++ row 2 2 60 110 ++ row 1 3 110 160 ++ row 1 4 160 245;
     }
 
--- P3: P1 with 30 for the first job; job 1 of chain 2 completes later, at 50 and not 40
+-- P3: P1 with 30 for the first job; job 1 of chain 2 completes later, at 50 and not 40.
 abbrev pub p3 : KnownRun
 p3 =
     record {
@@ -132,11 +132,11 @@ p1 =
       runs = p2 ∷ p3 ∷ [];
     }
 
--- before its release the machine is idle
+-- Before its release the machine is idle.
 abbrev pub p4With3 : KnownRun
 p4With3 = record { times = 3 ∷ []; check = Passed; completions = 8 ∷ []; end = 8; rows = row 1 1 5 8 }
 
--- one job, with the deadline that its bound meets and with the one before
+-- P4: one job, with the deadline that its bound meets and with the one before.
 abbrev pub p4 : ℕ → ℤ → Bool → Case
 p4 deadline slack verdict =
     record {
@@ -155,7 +155,7 @@ p4 deadline slack verdict =
       runs = p4With3 ∷ [];
     }
 
--- equals in two chains
+-- P5: equals in two chains.
 abbrev pub p5 : Case
 p5 =
     record {
@@ -174,14 +174,14 @@ p5 =
       runs = [];
     }
 
--- the second job at its effective release, and later, where the first takes its most time
+-- The second job runs at its effective release, and later where the first takes its most time.
 abbrev pub p6With4 : KnownRun
 p6With4 = record { times = 4 ∷ 2 ∷ []; check = Passed; completions = 4 ∷ 6 ∷ []; end = 6; rows = row 1 1 0 4 ++ row 1 2 4 6 }
 
 abbrev pub p6With6 : KnownRun
 p6With6 = record { times = 6 ∷ 2 ∷ []; check = Passed; completions = 6 ∷ 8 ∷ []; end = 8; rows = row 1 1 0 6 ++ row 1 2 6 8 }
 
--- a later job's effective release
+-- P6: a later job's effective release.
 abbrev pub p6 : Case
 p6 =
     record {
@@ -200,7 +200,7 @@ p6 =
       runs = p6With4 ∷ p6With6 ∷ [];
     }
 
--- spans that touch
+-- P7: spans that touch.
 abbrev pub p7 : Case
 p7 =
     record {
@@ -219,7 +219,7 @@ p7 =
       runs = [];
     }
 
--- spans that overlap
+-- P8: spans that overlap.
 abbrev pub p8 : Case
 p8 =
     record {

@@ -1,6 +1,6 @@
 -- The state of the machine. Document 01, "The machine".
 --   lastTime   the greatest time of a state; no run from time 0 reaches it
---   start     time 0, and no work done
+--   start      time 0, and no work done
 -- Assumes nothing.
 use Prim.Native.Nat.{ℕ}
 use lib.ListN.{replicate}

@@ -35,10 +35,11 @@ possible t times s u =
 unfoldable pub stateCheck : Table → List ℕ → State → Check
 stateCheck t times s = unless (leb (s .time) lastTime && everyBelow (t .count) (possible t times s)) ImpossibleState Passed
 
--- By number.
+-- In the order of the numbers.
 unfoldable pub stepCheck : List Job → List ℕ → State → Check
 stepCheck js times s = andThen (machineCheck js times) (stateCheck (tableOf js) times s)
 
+-- What a tick answers after its checks.
 abbrev pub stepBy : Check → State → Stepped → Stepped
 stepBy Passed s ticked = ticked
 stepBy (Refused refusal) s ticked = record { ticked = RefusedTick refusal; state = s }

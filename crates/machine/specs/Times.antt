@@ -1,7 +1,7 @@
 -- Running times. Document 01, number 8.
---   inRange       the running time of a job lies between its least and its most
---   timesFit      the running times are one for each job, each in its range
---   machineCheck  what the machine's operations check of a set and its running times: 4 to 7, then 8
+--   inRange        the running time of a job lies between its least and its most
+--   timesFit       the running times are one for each job, each in its range
+--   machineCheck   what the machine's operations check of a set and its running times: 4 to 7, then 8
 -- Assumes nothing.
 use Prim.Native.Nat.{ℕ}
 use mathlib.Core.Bool.{Bool, _&&_}

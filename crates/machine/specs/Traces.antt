@@ -66,7 +66,7 @@ rows js (s ∷ ss) = rows js ss ++ row js s
 unfoldable pub roomFor : List Job → ℕ → Bool
 roomFor js room = leb (8 * length js) room
 
--- By number.
+-- In the order of the numbers.
 unfoldable pub traceCheck : List Job → List ℕ → ℕ → Check
 traceCheck js times room = andThen (machineCheck js times) (unless (roomFor js room) ShortBuffer Passed)
 

@@ -14,7 +14,7 @@ pub struct Columns {
     pub release: [u64; JobSet::MAX_JOBS],
 }
 
-// The effective release of a job that comes after another one, whose effective release is before.
+// The effective release of a job; `last` is the job before it in the table, and `before` that one's effective release.
 fn release_after(last: Job, before: u64, job: Job) -> u64
     requires { ⌜ before + last .least < 2 ^ 64 ⌝ }
     ensures { λ r. ⌜ r ≡ carried last before job ⌝ }
@@ -28,6 +28,7 @@ fn release_after(last: Job, before: u64, job: Job) -> u64
     job.release
 }
 
+// The columns of an accepted set.
 pub(crate) fn columns_of(set: JobSet) -> Columns
     requires { ⌜ Accepted (jobsOf set) ⌝ }
     ensures { λ r. ⌜ Shown (tableOf (jobsOf set)) r (set .count) ⌝ }

@@ -47,6 +47,7 @@ pub fn better_of(best: Best, at: usize, priority: u64, chain: u64) -> Best
     }
 }
 
+// The best after one more job, which counts where it is ready.
 fn consider<'a, 'b>(
     best: Best,
     at: usize,

@@ -9,6 +9,7 @@ pub struct State {
 }
 
 impl State {
+    // No run from time 0 reaches this.
     pub const LAST_TIME: u64 = 2000000000;
 
     pub fn start() -> State

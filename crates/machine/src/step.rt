@@ -59,7 +59,7 @@ fn is_possible<'a, 'b>(
     release[at] < time
 }
 
-// Whether the work of the first count jobs is.
+// Whether the work of each of the first count jobs is possible.
 fn are_possible<'a, 'b>(
     count: usize,
     chain: &'a [u64; JobSet::MAX_JOBS],
@@ -81,7 +81,7 @@ fn are_possible<'a, 'b>(
     true
 }
 
-// Refusal 11.
+// Refusal 11: a state that cannot be.
 fn check_state(state: State, set: JobSet, columns: Columns, times: &[u64]) -> Check
     requires { ⌜ Prepared (jobsOf set) columns (now times) ⌝ }
     ensures { λ r. ⌜ r ≡ stateCheck (tableOf (jobsOf set)) (now (times .entry)) state ⌝ }

@@ -1,7 +1,7 @@
--- Rows of the texts that the programs print. Document 01, "Programs and the C side".
---   slackText   a comma and the slack, with its minus sign below zero
---   boundsRow   a row of the bounds text: chain, job, the three bounds and the slack
---   boundsRows  the rows of the first n jobs
+-- Rows of the bounds text. Document 01, "Programs and the C side".
+--   slackText    a comma and the slack, with its minus sign below zero
+--   boundsRow    a row of the bounds text: chain, job, the three bounds and the slack
+--   boundsRows   the rows of the first n jobs
 -- Assumes nothing.
 use Prim.Native.Nat.{ℕ, zero, suc}
 use mathlib.Core.List.{List, [], _∷_, _++_}

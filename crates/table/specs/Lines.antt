@@ -27,13 +27,13 @@ afterLine [] = []
 afterLine (b ∷ []) = []
 afterLine (b ∷ c ∷ text) = cond (isBreak b c) text (afterLine (c ∷ text))
 
--- the first n lines
+-- The first n lines.
 unfoldable pub linesUpTo : ℕ → List ℕ → List (List ℕ)
 linesUpTo zero text = []
 linesUpTo (suc n) [] = []
 linesUpTo (suc n) (b ∷ text) = firstLine (b ∷ text) ∷ linesUpTo n (afterLine (b ∷ text))
 
--- a text has no more lines than bytes
+-- A text has no more lines than bytes.
 abbrev pub linesOf : List ℕ → List (List ℕ)
 linesOf text = linesUpTo (length text) text
 

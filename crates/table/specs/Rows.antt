@@ -18,16 +18,16 @@ use Rattle.jobs.specs.declared.refusal.Check.the-variants.{Passed, Refused}
 use Rattle.table.specs.declared.line.Line.{Line}
 use Rattle.table.specs.Lines.{firstLine, afterLine}
 
--- the most columns of a line
+-- The most columns of a line.
 abbrev pub maxColumns : ℕ
 maxColumns = 7
 
--- a field with one byte more in front
+-- A field with one byte more in front.
 abbrev pub withComma : Field → Field
 withComma (Number value length) = Number value (length + 1)
 withComma NoNumber = NoNumber
 
--- the field after a comma, 44, and with it
+-- A comma and the field after it; the code of a comma is 44.
 unfoldable pub afterComma : List ℕ → Field
 afterComma [] = NoNumber
 afterComma (b ∷ text) = cond (eqb b 44) (withComma (fieldOf text)) NoNumber
@@ -35,7 +35,7 @@ afterComma (b ∷ text) = cond (eqb b 44) (withComma (fieldOf text)) NoNumber
 abbrev pub columnOf : ℕ → List ℕ → Field
 columnOf k text = cond (eqb k 0) (fieldOf text) (afterComma text)
 
--- the values of a line's fields, or none where it is not so many fields
+-- The values of a line's fields, or none where it is not so many fields.
 pub data Row : Type 0 where
   row : List ℕ → Row
   noRow : Row

@@ -3,7 +3,8 @@
 --   maxText       the greatest length of a text
 --   jobOf         the job that a record's values describe
 --   recordsFrom   3 to 6 line by line, the first bad line deciding, then 7
---   readingOf       the answer to reading a text: its jobs, or the refusal with no jobs
+--   readingOf     the answer to reading a text: its jobs, or the refusal with no jobs
+--   headerEnd     where the first line is the header, how many bytes it takes with its end
 -- Assumes nothing.
 use Prim.Native.Nat.{ℕ, _-_}
 use mathlib.Core.Bool.{Bool, true, false, cond}
@@ -44,7 +45,7 @@ jobOf values =
       deadline = getD values 6 0;
     }
 
--- a refused table has no jobs
+-- A refused table has no jobs.
 abbrev pub refusedWith : Refusal → Reading
 refusedWith refusal = record { check = Refused refusal; set = setOf [] }
 
@@ -52,12 +53,12 @@ abbrev pub readWith : Check → List Job → Reading
 readWith Passed js = record { check = Passed; set = setOf js }
 readWith (Refused refusal) js = refusedWith refusal
 
--- what follows a line that is a record
+-- What follows a line that is seven fields; any other is refused with 3.
 abbrev pub thenRow : Row → (Job → Reading) → Reading
 thenRow (row values) rest = rest (jobOf values)
 thenRow noRow rest = refusedWith MalformedLine
 
--- what follows a record's check
+-- What follows the check of a record.
 abbrev pub thenCheck : Check → Reading → Reading
 thenCheck Passed rest = rest
 thenCheck (Refused refusal) rest = refusedWith refusal
@@ -68,7 +69,7 @@ recordsFrom before (line ∷ lines) =
     thenRow (rowOf maxColumns line)
     (λ j. let rest = recordsFrom (before ++ (j ∷ [])) lines in thenCheck (recordCheck (length before) (lastOf noJob before) j) rest)
 
--- whether two texts are the same
+-- Whether two texts are the same.
 unfoldable pub same : List ℕ → List ℕ → Bool
 same [] [] = true
 same [] (b ∷ text) = false
@@ -82,6 +83,6 @@ underHeader (line ∷ lines) = cond (same line header) (recordsFrom [] lines) (r
 unfoldable pub readingOf : List ℕ → Reading
 readingOf text = cond (leb (length text) maxText) (underHeader (linesOf text)) (refusedWith TextTooLong)
 
--- how many bytes the first line takes with its end, where it is the header
+-- What the reader of the header answers.
 unfoldable pub headerEnd : List ℕ → End
 headerEnd text = cond (same (firstLine text) header) (Here (length text - length (afterLine text))) Elsewhere

@@ -22,6 +22,7 @@ pub struct Reading {
     pub set: JobSet,
 }
 
+// The answer to a table that is refused.
 fn refused(refusal: Refusal) -> Reading
     ensures { λ r. ⌜ r ≡ refusedWith refusal ⌝ }
 {

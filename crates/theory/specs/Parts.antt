@@ -23,7 +23,7 @@ pub record Part (part t : Table) (place number : ℕ → ℕ) : Type 0 where
   pub most : (i : ℕ) → i < part .count → t .most (place i) ≡ part .most i
   pub earliest : (i : ℕ) → i < part .count → t .earliest (place i) ≡ part .earliest i
   pub latest : (i : ℕ) → i < part .count → t .latest (place i) ≡ part .latest i
-  -- of each chain that the part has, it has every job
+  -- Of each chain that the part has, it has every job.
   pub whole : (u x : ℕ) → u < t .count → t .chain u ≡ number x → Left part place u → ⊥
 
 -- What is left is strictly less urgent than all that is of the part.

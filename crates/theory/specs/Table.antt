@@ -9,11 +9,11 @@ use lib.Dec.{eqb}
 pub record Table : Type 0 where
   pub count : ℕ
   pub chain : ℕ → ℕ
-  -- a greater number is more urgent
+  -- A greater number is more urgent.
   pub urgency : ℕ → ℕ
   pub least : ℕ → ℕ
   pub most : ℕ → ℕ
-  -- a job's release lies between these two
+  -- A job's release lies between these two.
   pub earliest : ℕ → ℕ
   pub latest : ℕ → ℕ
 
