@@ -5,6 +5,7 @@ pub mod RunningTimes
 pub mod Figures
 pub mod Ticking
 pub mod Course
+pub mod Idling
 pub mod Running
 pub mod Spans
 pub mod Tracing

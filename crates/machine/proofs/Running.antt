@@ -36,8 +36,9 @@ use Rattle.machine.specs.Times.{machineCheck}
 use Rattle.machine.specs.Pick.{pickUpTo, pick}
 use Rattle.machine.specs.Ticks.{allComplete, moved}
 use Rattle.machine.specs.Runs.{after, entry, completion, finish, completions, runOf}
-use Rattle.machine.specs.Private.{seen, stateOf, sumOf, Prepared}
+use Rattle.machine.specs.Private.{seen, stateOf, sumOf, nextRelease, Prepared}
 use Rattle.machine.specs.Best.{bestOf}
+use Rattle.machine.proofs.Idling.{next-after, next-le, pick-same}
 use Rattle.machine.proofs.RunningTimes.{set-accepted, times-each, times-brief, sum-limit}
 use Rattle.machine.proofs.Ticking.{pick-chosen, next-moved, advance-none, advance-found, advance-inside, advance-room, advance-work}
 use Rattle.machine.proofs.Course.{sum-worked, all-sum, sum-all, none-done, after-next, after-settled, pick-settled, Going, going, idle-early}
@@ -168,6 +169,31 @@ module _ (js : List Job) (times : List ℕ) (passed : machineCheck js times ≡ 
       pub reached-finish : finish t times ≡ stateOf time work
       reached-finish = at-limit (after t times) time (after-settled t times time reached-settled) reached-limit ∙ r .here
 
+  -- ---- idle time: where nothing is picked and no release comes before b, every tick until then is idle
+  module _ {work : List ℕ} {left time : ℕ} (r : Reached js times work left time) (more : 0 < left) (q : pick t times (stateOf time work) ≡ idle) (b : ℕ)
+      (apart : (u : ℕ) → u < length js → time < t .earliest u → b ≤ t .earliest u) where
+    still : (d : ℕ) → time + d < b → pick t times (stateOf (time + d) work) ≡ idle
+    unfolding pick
+    still d l = pick-same t times work time b apart (time + d) (omega arith) l (length js) (omega arith) ∙ q
+
+    reached-on : (d : ℕ) → time + d ≤ b → Reached js times work left (time + d)
+    reached-on zero l = rw (add-zero time) r
+    reached-on (suc d) l =
+        let e : time + d + 1 ≡ time + suc d = omega arith in
+        subst (Reached js times work left) e (reached-idle (reached-on d (omega arith)) more (still d (omega arith)))
+
+    kept-on : (P : ℕ → Type 0) → ((s : ℕ) → entry t times s ≡ idle → P s → P (s + 1)) → P time → (d : ℕ) → time + d ≤ b → P (time + d)
+    kept-on P step p zero l = rw (add-zero time) p
+    kept-on P step p (suc d) l =
+        let e : time + d + 1 ≡ time + suc d = omega arith in
+        subst P e (step (time + d) (reached-entry (reached-on d (omega arith)) ∙ still d (omega arith)) (kept-on P step p d (omega arith)))
+
+    pub reached-next : time ≤ b → Reached js times work left b
+    reached-next l = let e : time + (b - time) ≡ b = omega arith in subst (Reached js times work left) e (reached-on (b - time) (omega arith))
+
+    pub kept-next : time ≤ b → (P : ℕ → Type 0) → ((s : ℕ) → entry t times s ≡ idle → P s → P (s + 1)) → P time → P b
+    kept-next l P step p = let e : time + (b - time) ≡ b = omega arith in subst P e (kept-on P step p (b - time) (omega arith))
+
   -- ---- completions
   pub noted-start : Noted js times (replicate maxJobs 0) 0
   unfolding completion
@@ -233,9 +259,20 @@ module _ (set : JobSet) (columns : Columns) (times : List ℕ) (p : Prepared (jo
     pub tick-entry : entry (tableOf js) times time ≡ runs (best .at)
     tick-entry = reached-entry js times (p .checked) r ∙ advance-found set columns times p (stateOf time work) best e f
 
-  module _ (f : best .found ≡ false) where
-    pub idle-reached : Reached js times work left (time + 1)
-    idle-reached = reached-idle js times (p .checked) r more (advance-none set columns times p (stateOf time work) best e f)
+  module _ (f : best .found ≡ false) (b : ℕ) (be : b ≡ nextRelease (λ i. getD (columns .release) i 0) time (set .count)) where
+    none-picked : pick (tableOf js) times (stateOf time work) ≡ idle
+    none-picked = advance-none set columns times p (stateOf time work) best e f
 
-    pub idle-entry : entry (tableOf js) times time ≡ idle
-    idle-entry = reached-entry js times (p .checked) r ∙ advance-none set columns times p (stateOf time work) best e f
+    none-before : (u : ℕ) → u < length js → time < tableOf js .earliest u → b ≤ tableOf js .earliest u
+    none-before u l later =
+        let shown = p .shown .release u l in
+        omega (arith, be, shown, length-jobs set, next-le (λ i. getD (columns .release) i 0) time (set .count) u (omega (arith, length-jobs set)) (omega (arith, shown)))
+
+    pub idle-later : time < b
+    idle-later = omega (arith, be, next-after (λ i. getD (columns .release) i 0) time (reached-early js times (p .checked) r more) (set .count))
+
+    pub idle-reached : Reached js times work left b
+    idle-reached = reached-next js times (p .checked) r more none-picked b none-before (omega (arith, idle-later))
+
+    pub idle-kept : (P : ℕ → Type 0) → ((s : ℕ) → entry (tableOf js) times s ≡ idle → P s → P (s + 1)) → P time → P b
+    idle-kept = kept-next js times (p .checked) r more none-picked b none-before (omega (arith, idle-later))

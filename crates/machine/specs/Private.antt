@@ -7,10 +7,13 @@
 --   sumOf        the first n numbers of a list, added up
 --   Prepared     a set's columns and its running times, which have passed
 --   putAt        where a tick goes in a trace
+--   sooner       the earlier of a time and a release, where that is still to come
+--   nextRelease  the first release that is still to come
+--   nextTime     when the machine has to be looked at again after a tick
 -- Assumes nothing.
-use Prim.Native.Nat.{ℕ, _+_, _-_, _≤_, _<_, max}
+use Prim.Native.Nat.{ℕ, zero, suc, _+_, _-_, _≤_, _<_, max, min}
 use mathlib.Core.Path.{_≡_}
-use mathlib.Core.Bool.{true, false, cond, _&&_}
+use mathlib.Core.Bool.{Bool, cond, _&&_}
 use mathlib.Core.List.{List}
 use lib.Dec.{ltb, eqb}
 use lib.ListN.{length, getD}
@@ -20,15 +23,12 @@ use Rattle.jobs.specs.declared.refusal.Check.the-variants.{Passed}
 use Rattle.jobs.specs.Limits.{maxJobs, maxTime}
 use Rattle.theory.specs.Table.{Table}
 use Rattle.theory.specs.Releases.{tableOf}
-use Rattle.theory.specs.Runs.{Entry, idle, runs}
 use Rattle.machine.specs.declared.state.State.{State}
 use Rattle.machine.specs.declared.columns.Columns.{Columns}
-use Rattle.machine.specs.declared.pick.Best.{Best}
 use Rattle.machine.specs.declared.trace.Span.{Span}
 use Rattle.machine.specs.declared.trace.Put.{Put}
+use Rattle.machine.specs.States.{lastTime}
 use Rattle.machine.specs.Times.{machineCheck}
-use Rattle.machine.specs.Ready.{ready}
-use Rattle.machine.specs.Pick.{outranks}
 
 abbrev pub stateOf : ℕ → List ℕ → State
 stateOf time work = record { time = time; work = work }
@@ -76,3 +76,15 @@ putAt last n u time =
     cond (ltb 0 n && (eqb (last .at) u && eqb (last .to) time))
     (record { entry = n - 1; entries = n; span = record { at = u; from = last .from; to = time + 1 } })
     (record { entry = n; entries = n + 1; span = record { at = u; from = time; to = time + 1 } })
+
+unfoldable pub sooner : ℕ → ℕ → ℕ → ℕ
+sooner next release time = cond (ltb time release) (min next release) next
+
+-- Of the first n jobs; where none is still to come, the limit on times.
+unfoldable pub nextRelease : (ℕ → ℕ) → ℕ → ℕ → ℕ
+nextRelease release time zero = lastTime
+nextRelease release time (suc n) = sooner (nextRelease release time n) (release n) time
+
+-- After a tick in which a job ran, at the next one; after an idle one, at the next release.
+unfoldable pub nextTime : Bool → (ℕ → ℕ) → ℕ → ℕ → ℕ
+nextTime found release time n = cond found (time + 1) (nextRelease release time n)

@@ -1,5 +1,6 @@
 // The machine that runs the jobs of a set tick by tick, by the priority rule.
 pub mod columns;
+pub mod idle;
 pub mod pick;
 pub mod ready;
 pub mod run;

@@ -4,6 +4,7 @@ ghost use Rattle.jobs.specs.Jobs.{jobsOf};
 ghost use Rattle.machine.specs.Times.{machineCheck};
 ghost use Rattle.machine.specs.Runs.{runOf};
 use crate::columns::columns_of;
+use crate::idle::next_time;
 use crate::pick::best_of;
 use crate::times::check_times;
 use crate::times::total;
@@ -38,7 +39,7 @@ fn run_through(set: JobSet, times: &[u64]) -> Completed
             completions[at] = time + 1;
             left -= 1;
         }
-        time += 1;
+        time = next_time(best.found, set.count, &release, time);
     }
     Completed {
         check: Check::Passed,

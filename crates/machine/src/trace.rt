@@ -10,6 +10,7 @@ ghost use Rattle.machine.specs.Times.{machineCheck};
 ghost use Rattle.machine.specs.Traces.{rows, traced, traceOf, tracedIn};
 ghost use Rattle.machine.specs.Private.{putAt};
 use crate::columns::columns_of;
+use crate::idle::next_time;
 use crate::pick::best_of;
 use crate::times::check_times;
 use crate::times::total;
@@ -96,7 +97,7 @@ fn write_entries(set: JobSet, times: &[u64], out: &mut [u64]) -> usize
             work[at] = work[at] + 1;
             left -= 1;
         }
-        time += 1;
+        time = next_time(best.found, set.count, &release, time);
     }
     entries
 }

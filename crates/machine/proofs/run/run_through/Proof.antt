@@ -13,7 +13,8 @@ use Rattle.machine.specs.States.{lastTime}
 use Rattle.machine.specs.Private.{Prepared}
 use Rattle.machine.proofs.RunningTimes.{set-accepted, times-brief}
 use Rattle.machine.proofs.Ticking.{prepared-of, prepared-few, prepared-times}
-use Rattle.machine.proofs.Running.{Reached, reached-start, reached-early, reached-finish, Noted, noted-start, noted-ran, noted-idle, noted-all, run-done, tick-room, tick-work, tick-reached, tick-entry, idle-reached, idle-entry}
+use Rattle.machine.proofs.Idling.{time-ran, time-idle, next-later}
+use Rattle.machine.proofs.Running.{Reached, reached-start, reached-early, reached-finish, Noted, noted-start, noted-ran, noted-idle, noted-all, run-done, tick-room, tick-work, tick-reached, tick-entry, idle-reached, idle-kept}
 use Rattle.machine.proofs.run.run_through.Statement.{statement}
 use Rattle.machine.proofs.run.run_through.Tie as tie
 
@@ -83,14 +84,36 @@ array-write-completions c = room (c .before) (c .if1 .taken)
 sub-left : tie.Need-sub-left Inv-loop μ-loop
 sub-left c = search needs
 
-add-time : tie.Need-add-time Inv-loop μ-loop
-add-time c = omega (arith, reached-early _ _ (c .before .before .before .before .before .before .before .before .before .before .before .before .before .before .pre) (c .before .before .before .before .before .before .before .loop .inv .0) (c .before .before .before .before .before .before .loop-test .taken))
+next-time-requires : tie.Need-next-time-requires Inv-loop μ-loop
+next-time-requires c κs =
+    let scan = c .before .before in
+    (prepared-few _ _ _ (prepared (made scan)), reached-early _ _ (c .before .before .before .before .before .before .before .before .before .before .before .before .before .before .before .pre) (head scan .loop .inv .0) (more scan))
 
 loop-less : tie.Need-loop-less Inv-loop μ-loop
-loop-less c = omega (arith, reached-early _ _ (c .before .before .before .before .before .before .before .before .before .before .before .before .before .before .pre) (c .before .before .before .before .before .before .before .loop .inv .0) (c .before .before .before .before .before .before .loop-test .taken))
+loop-less c =
+    let scan = c .before .before .before in
+    let early = reached-early _ _ (c .before .before .before .before .before .before .before .before .before .before .before .before .before .before .before .before .pre) (head scan .loop .inv .0) (more scan) in
+    omega (arith, early, next-later _ (head scan .loop .time) _ _ _ early (c .next-time .ensures))
 
 loop-again : tie.Need-loop-again Inv-loop μ-loop
-loop-again c = ⊎-elim (λ w. rw (w .1, w .2, w .3) (tick-reached _ _ _ (prepared (c .before .before .before .before .before .before .before .before .before .before .before .before)) (c .before .before .before .before .before .before .before .loop .inv .0) (c .before .before .before .before .before .before .loop-test .taken) _ (c .before .best-of .ensures) (w .0 .taken), noted-ran _ _ (c .before .before .before .before .before .before .before .before .before .before .before .before .before .before .pre) (c .before .before .before .before .before .before .before .loop .inv .1) _ (room (c .before) (w .0 .taken)) (tick-entry _ _ _ (prepared (c .before .before .before .before .before .before .before .before .before .before .before .before)) (c .before .before .before .before .before .before .before .loop .inv .0) (c .before .before .before .before .before .before .loop-test .taken) _ (c .before .best-of .ensures) (w .0 .taken)))) (λ w. rw (w .1, w .2, w .3) (idle-reached _ _ _ (prepared (c .before .before .before .before .before .before .before .before .before .before .before .before)) (c .before .before .before .before .before .before .before .loop .inv .0) (c .before .before .before .before .before .before .loop-test .taken) _ (c .before .best-of .ensures) (w .0 .left), noted-idle _ _ (c .before .before .before .before .before .before .before .before .before .before .before .before .before .before .pre) (c .before .before .before .before .before .before .before .loop .inv .1) (idle-entry _ _ _ (prepared (c .before .before .before .before .before .before .before .before .before .before .before .before)) (c .before .before .before .before .before .before .before .loop .inv .0) (c .before .before .before .before .before .before .loop-test .taken) _ (c .before .best-of .ensures) (w .0 .left)))) (c .if1 .came)
+loop-again c =
+    let scan = c .before .before .before in
+    let h = head scan .loop .inv in
+    ⊎-elim
+    (λ w.
+    let f = w .0 .taken in
+    rw (w .1, w .2, w .3, time-ran _ (head scan .loop .time) _ _ _ f (c .next-time .ensures)) (
+      tick-reached _ _ _ (prepared (made scan)) (h .0) (more scan) _ (scan .best-of .ensures) f,
+      noted-ran _ _ (c .before .before .before .before .before .before .before .before .before .before .before .before .before .before .before .before .pre) (h .1) _ (room scan f) (tick-entry _ _ _ (prepared (made scan)) (h .0) (more scan) _ (scan .best-of .ensures) f),
+    ))
+    (λ w.
+    let f = w .0 .left in
+    let on = time-idle _ (head scan .loop .time) _ _ _ f (c .next-time .ensures) in
+    rw (w .1, w .2, w .3) (
+      idle-reached _ _ _ (prepared (made scan)) (h .0) (more scan) _ (scan .best-of .ensures) f _ on,
+      idle-kept _ _ _ (prepared (made scan)) (h .0) (more scan) _ (scan .best-of .ensures) f _ on (Noted _ _ (head scan .loop .completions)) (λ n e kept. noted-idle _ _ (c .before .before .before .before .before .before .before .before .before .before .before .before .before .before .before .before .pre) kept e) (h .1),
+    ))
+    (c .before .before .if1 .came)
 
 returns : tie.Need-returns Inv-loop μ-loop
 returns c = run-done _ _ (c .before .before .before .before .before .before .before .before .pre) _ _ _ (reached-finish _ _ (c .before .before .before .before .before .before .before .before .pre) (c .before .loop .inv .0) (c .loop-test .left)) (noted-all _ _ (c .before .before .before .before .before .before .before .before .pre) (c .before .loop .inv .1) (c .before .loop .inv .0) (c .loop-test .left))
@@ -114,7 +137,7 @@ run-through-spec =
     mul-completions
     array-write-completions
     sub-left
-    add-time
+    next-time-requires
     loop-less
     loop-again
     returns)

@@ -19,7 +19,8 @@ use Rattle.machine.specs.Runs.{entry}
 use Rattle.machine.specs.Private.{Prepared, putAt}
 use Rattle.machine.proofs.RunningTimes.{set-accepted, times-brief}
 use Rattle.machine.proofs.Ticking.{prepared-of, prepared-few, prepared-times, advance-inside}
-use Rattle.machine.proofs.Running.{Reached, reached-start, reached-early, tick-room, tick-work, tick-reached, tick-entry, idle-reached, idle-entry}
+use Rattle.machine.proofs.Idling.{time-ran, time-idle, next-later}
+use Rattle.machine.proofs.Running.{Reached, reached-start, reached-early, tick-room, tick-work, tick-reached, tick-entry, idle-reached, idle-kept}
 use Rattle.machine.proofs.Tracing.{Written, written-start, written-few, written-length, written-idle, put-room, put-few, written-ran, written-count, written-all}
 use Rattle.machine.proofs.trace.write_entries.Statement.{statement}
 use Rattle.machine.proofs.trace.write_entries.Tie as tie
@@ -150,14 +151,38 @@ array-write-work c = room (c .before .before .before .before) (c .before .before
 sub-left : tie.Need-sub-left Inv-loop μ-loop
 sub-left c = search needs
 
-add-time : tie.Need-add-time Inv-loop μ-loop
-add-time c = omega (arith, reached-early _ _ (c .before .before .before .before .before .before .before .before .before .before .before .before .before .before .before .pre .0) (c .before .before .before .before .before .before .before .loop .inv .0) (c .before .before .before .before .before .before .loop-test .taken))
+next-time-requires : tie.Need-next-time-requires Inv-loop μ-loop
+next-time-requires c κs =
+    let scan = c .before .before in
+    (prepared-few _ _ _ (prepared (made scan)), reached-early _ _ (begun scan .pre .0) (head scan .loop .inv .0) (more scan))
 
 loop-less : tie.Need-loop-less Inv-loop μ-loop
-loop-less c = omega (arith, reached-early _ _ (c .before .before .before .before .before .before .before .before .before .before .before .before .before .before .before .pre .0) (c .before .before .before .before .before .before .before .loop .inv .0) (c .before .before .before .before .before .before .loop-test .taken))
+loop-less c =
+    let scan = c .before .before .before in
+    let early = reached-early _ _ (begun scan .pre .0) (head scan .loop .inv .0) (more scan) in
+    omega (arith, early, next-later _ (head scan .loop .time) _ _ _ early (c .next-time .ensures))
 
 loop-again : tie.Need-loop-again Inv-loop μ-loop
-loop-again c = ⊎-elim (λ w. let a = c .before .before .before .before .before .before .before .before .before .before .before .before .before .before .before .args .t1 in let l = inside (c .before) (w .0 .taken) in let j = job-at a (c .before .best-of .result .at) l in rw (w .4, w .5, w .6, w .7, w .8) (tick-reached _ _ _ (prepared (c .before .before .before .before .before .before .before .before .before .before .before .before)) (c .before .before .before .before .before .before .before .loop .inv .0) (c .before .before .before .before .before .before .loop-test .taken) _ (c .before .best-of .ensures) (w .0 .taken), written-ran _ _ _ (c .before .before .before .before .before .before .before .before .before .before .before .before .before .before .before .pre .0) (wide (c .before .before .before .before .before .before .before .before .before .before .before .before .before .before .before)) (c .before .before .before .before .before .before .before .loop .inv .1) _ (ran (c .before) (w .0 .taken)) _ (w .1 .ensures) _ _ (ap (λ (x : Job). x .chain) (sym j)) (ap (λ (x : Job). x .job) (sym j)))) (λ w. rw (w .1, w .2, w .3, w .4, w .5) (idle-reached _ _ _ (prepared (c .before .before .before .before .before .before .before .before .before .before .before .before)) (c .before .before .before .before .before .before .before .loop .inv .0) (c .before .before .before .before .before .before .loop-test .taken) _ (c .before .best-of .ensures) (w .0 .left), written-idle _ _ _ (c .before .before .before .before .before .before .before .before .before .before .before .before .before .before .before .pre .0) (wide (c .before .before .before .before .before .before .before .before .before .before .before .before .before .before .before)) (c .before .before .before .before .before .before .before .loop .inv .1) (idle-entry _ _ _ (prepared (c .before .before .before .before .before .before .before .before .before .before .before .before)) (c .before .before .before .before .before .before .before .loop .inv .0) (c .before .before .before .before .before .before .loop-test .taken) _ (c .before .best-of .ensures) (w .0 .left)))) (c .if1 .came)
+loop-again c =
+    let scan = c .before .before .before in
+    let h = head scan .loop .inv in
+    let passed = begun scan .pre .0 in
+    ⊎-elim
+    (λ w.
+    let f = w .0 .taken in
+    let j = job-at (begun scan .args .t1) (scan .best-of .result .at) (inside scan f) in
+    rw (w .4, w .5, w .6, w .7, w .8, time-ran _ (head scan .loop .time) _ _ _ f (c .next-time .ensures)) (
+      tick-reached _ _ _ (prepared (made scan)) (h .0) (more scan) _ (scan .best-of .ensures) f,
+      written-ran _ _ _ passed (wide (begun scan)) (h .1) _ (ran scan f) _ (w .1 .ensures) _ _ (ap (λ (x : Job). x .chain) (sym j)) (ap (λ (x : Job). x .job) (sym j)),
+    ))
+    (λ w.
+    let f = w .0 .left in
+    let on = time-idle _ (head scan .loop .time) _ _ _ f (c .next-time .ensures) in
+    rw (w .1, w .2, w .3, w .4, w .5) (
+      idle-reached _ _ _ (prepared (made scan)) (h .0) (more scan) _ (scan .best-of .ensures) f _ on,
+      idle-kept _ _ _ (prepared (made scan)) (h .0) (more scan) _ (scan .best-of .ensures) f _ on (Written (jobsOf (begun scan .args .t1)) (now (begun scan .args .times)) (now (begun scan .args .out)) (head scan .loop .out) (head scan .loop .last) (head scan .loop .entries)) (λ n e kept. written-idle _ _ _ passed (wide (begun scan)) kept e) (h .1),
+    ))
+    (c .before .before .if1 .came)
 
 same-length : tie.Need-same-length Inv-loop μ-loop
 same-length c = written-length _ _ _ (c .before .before .before .before .before .before .before .before .before .pre .0) (wide (c .before .before .before .before .before .before .before .before .before)) (c .before .loop .inv .1)
@@ -198,7 +223,7 @@ write-entries-spec =
     mul-work-2
     array-write-work
     sub-left
-    add-time
+    next-time-requires
     loop-less
     loop-again
     same-length

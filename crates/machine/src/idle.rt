@@ -1,0 +1,52 @@
+// Idle time: while no job is ready, nothing changes before the next release.
+ghost use mathlib.Core.Path.{_≡_};
+ghost use Prim.Native.Nat.{_<_, _≤_};
+ghost use lib.ListN.{getD};
+ghost use Rattle.jobs.specs.Limits.{maxJobs};
+ghost use Rattle.machine.specs.States.{lastTime};
+ghost use Rattle.machine.specs.Private.{sooner as Private·sooner, nextRelease, nextTime};
+use crate::state::State;
+use jobs::set::JobSet;
+
+// The earlier of a time and a release, where that is still to come.
+fn sooner(next: u64, release: u64, time: u64) -> u64
+    ensures { λ r. ⌜ r ≡ Private·sooner next release time ⌝ }
+{
+    if release <= time {
+        return next;
+    }
+    if release < next {
+        return release;
+    }
+    next
+}
+
+// The first release of the first count jobs that is still to come.
+fn next_release<'a>(count: usize, release: &'a [u64; JobSet::MAX_JOBS], time: u64) -> u64
+    requires { ⌜ count ≤ maxJobs ⌝ }
+    ensures { λ r. ⌜ r ≡ nextRelease (λ i. getD (now (release .entry)) i 0) time count ⌝ }
+{
+    let mut next = State::LAST_TIME;
+    let mut n: usize = 0;
+    while n < count {
+        next = sooner(next, release[n], time);
+        n += 1;
+    }
+    next
+}
+
+// When the machine has to be looked at again after a tick in which a job was found to run, or none.
+pub(crate) fn next_time<'a>(
+    found: bool,
+    count: usize,
+    release: &'a [u64; JobSet::MAX_JOBS],
+    time: u64,
+) -> u64
+    requires { ⌜ (count ≤ maxJobs) × (time < lastTime) ⌝ }
+    ensures { λ r. ⌜ r ≡ nextTime found (λ i. getD (now (release .entry)) i 0) time count ⌝ }
+{
+    if found {
+        return time + 1;
+    }
+    next_release(count, release, time)
+}
