@@ -102,6 +102,7 @@ int main(int argc, char **argv)
     int tables = argc > 1 ? atoi(argv[1]) : KINDS;
     text_room = walled_room();
     out_room = walled_room();
+    count(cudlomer_bounds(NULL, 0, NULL, 0) == -2 && cudlomer_trace(NULL, 0, NULL, 0) == -2, "no text and no buffer");
     for (int n = 0; n < tables; n++) {
         size_t end = draw_table(&kinds[n % KINDS], table);
         place = (enum place)(n / KINDS % PLACES);
