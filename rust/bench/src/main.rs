@@ -140,7 +140,7 @@ fn least(measure: impl Fn(u64, u64) -> Vec<f64>, loads: &[(u64, u64)]) -> Vec<Ve
     best
 }
 
-const PASSES: usize = 5;
+const PASSES: usize = 20;
 
 fn main() {
     let loads = [(8, 2), (16, 2), (32, 2), (64, 2), (8, 8), (16, 8), (32, 8), (64, 8)];
