@@ -12,6 +12,8 @@ pub enum Kind {
     Long,
     /// Many short chains.
     Wide,
+    /// Short jobs with releases far apart, so that most time is idle.
+    Late,
     /// Figures at and near their limits.
     Extreme,
 }
@@ -22,8 +24,7 @@ impl Kind {
             Kind::Small => 1500,
             Kind::Dense => 150,
             Kind::Long => 40,
-            Kind::Wide => 60,
-            Kind::Extreme => 60,
+            Kind::Wide | Kind::Late | Kind::Extreme => 60,
         }
     }
 }
@@ -65,7 +66,7 @@ impl Draw {
             Kind::Dense => (self.range(2, 6), 6),
             Kind::Long => (self.range(1, 3), 21),
             Kind::Wide => (self.range(8, 16), 4),
-            Kind::Extreme => (self.range(1, 8), 8),
+            Kind::Late | Kind::Extreme => (self.range(1, 8), 8),
         };
         (0..chains).map(|_| self.range(1, most)).collect()
     }
@@ -77,12 +78,13 @@ impl Draw {
                 let (release, priority, most) = match kind {
                     Kind::Small => (self.range(0, 20), self.range(0, 3), self.range(1, 6)),
                     Kind::Dense => (self.range(0, 60), self.range(0, 5), self.range(1, 12)),
+                    Kind::Late => (self.extreme(0, 1_000_000_000), self.range(0, 5), self.range(1, 30)),
                     Kind::Long | Kind::Wide => (self.range(0, 400), self.range(0, 9), self.range(1, 30)),
                     Kind::Extreme => (self.extreme(0, 1_000_000_000), self.extreme(0, 255), self.extreme(1, 1_000_000)),
                 };
                 let deadline = match kind {
                     Kind::Extreme => self.extreme(0, 4_000_000_000),
-                    _ => self.range(0, 4 * (release + most) + 20),
+                    _ => self.range(0, (4 * (release + most) + 20).min(4_000_000_000)),
                 };
                 jobs.push(Job { chain: c as u64 + 1, job: j + 1, release, priority, least: self.range(1, most), most, deadline });
             }

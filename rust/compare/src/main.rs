@@ -45,9 +45,9 @@ fn compare_text(tally: &mut Tally, what: &str, table: &[u8], write: Writer, want
     }
 }
 
-/// Whether the run is so short that going through it tick by tick takes little time.
+/// Whether so little work is to be done that going through it tick by tick takes little time; idle time is passed over.
 fn is_short(jobs: &[Job]) -> bool {
-    jobs.iter().map(|j| j.release + j.most).sum::<u64>() <= 100_000
+    jobs.iter().map(|j| j.most).sum::<u64>() <= 100_000
 }
 
 fn compare_table(tally: &mut Tally, table: &[u8]) {
@@ -76,7 +76,7 @@ fn compare_table(tally: &mut Tally, table: &[u8]) {
 fn main() {
     let mut tally = Tally { passed: 0, failed: 0 };
     let mut draw = Draw::from_seed(2026);
-    for kind in [Kind::Small, Kind::Dense, Kind::Long, Kind::Wide, Kind::Extreme] {
+    for kind in [Kind::Small, Kind::Dense, Kind::Long, Kind::Wide, Kind::Late, Kind::Extreme] {
         for _ in 0..kind.tables() {
             let jobs = draw.jobs(kind);
             let table = draw.text(&jobs);
