@@ -1,7 +1,8 @@
 -- `negated` answers the number negated. Assumes nothing.
 use native.Mathlib.Omega.{arith}
-use lib.IntN.{+ℤ-idl}
+use lib.IntN.{pos, negℤ, _+ℤ_, +ℤ-idl}
 use mir.Syntax.{w64}
+use mir.Val.{SFits}
 use mir.Facts.{toZ-pos, toZ-ofZ}
 use borrow.Author.Needs.{needs}
 use Rattle.cudlomer.proofs.Negation.{neg-fits}
@@ -15,7 +16,9 @@ cast-result : tie.Need-cast-result
 cast-result c = search needs
 
 sub-result : tie.Need-sub-result
-sub-result c = rw (toZ-pos w64 {n = c .number .result} (omega arith), +ℤ-idl) (neg-fits (c .number .result) (omega arith))
+sub-result c =
+    let fits : SFits w64 (pos 0 +ℤ negℤ (pos (c .number .result))) = rw +ℤ-idl (neg-fits (c .number .result) (omega arith)) in
+    rw (toZ-pos w64 {n = c .number .result} (omega arith)) fits
 
 returns : tie.Need-returns
 returns c = rw (toZ-pos w64 {n = c .number .result} (omega arith), +ℤ-idl, ← c .number .ensures) (toZ-ofZ (neg-fits (c .number .result) (omega arith)))
