@@ -8,7 +8,7 @@ use native.Mathlib.Numerals.{add-one}
 use lib.Dec.{leb}
 use lib.ListN.{length}
 use borrow.Author.Tests.{le-leb}
-use Rattle.laws.specs.Places.{padded}
+use Rattle.laws.specs.Words.{padded}
 use Rattle.laws.proofs.Tests.{never-true, and-both}
 use Rattle.laws.proofs.Lists.{getD-padded}
 use Rattle.jobs.specs.declared.job.Job.{Job}

@@ -11,7 +11,7 @@ use native.Mathlib.Omega.{arith}
 use native.Mathlib.Nat.{zero-add, add-mul}
 use lib.Dec.{eqb}
 use borrow.Author.Tests.{eq-eqb, ne-eqb}
-use Rattle.laws.specs.Places.{sumBelow}
+use Rattle.laws.specs.Words.{sumBelow}
 use Rattle.laws.proofs.Tests.{by-test, by-equal}
 use Rattle.laws.proofs.Sums.{sum-zero, sum-bump}
 use Rattle.theory.specs.Table.{Table}

@@ -10,7 +10,7 @@ use lib.IntN.{ℤ, pos}
 use lib.ListN.{length, getD, set, replicate}
 use mir.Syntax.{w64}
 use mir.Val.{toZ, ofZ}
-use Rattle.laws.specs.Places.{tabulate, padded}
+use Rattle.laws.specs.Words.{tabulate, padded}
 use Rattle.laws.proofs.Lists.{getD-padded}
 use Rattle.laws.proofs.Filling.{filled-none, filled-next}
 use Rattle.jobs.specs.declared.job.Job.{Job}

@@ -7,7 +7,7 @@ use mathlib.Core.Path.{_≡_, refl, sym, ap, _∙_, fun-ext}
 use mathlib.Core.Bool.{Bool, cond}
 use mathlib.Core.List.{List}
 use lib.Dec.{eqb}
-use Rattle.laws.specs.Places.{sumBelow, tabulate, greatest}
+use Rattle.laws.specs.Words.{sumBelow, tabulate, greatest}
 use Rattle.theory.specs.Table.{Table, joined}
 use Rattle.theory.specs.Interference.{openBlock, largestBlock, chains, interference}
 use Rattle.theory.specs.Bounds.{ertRule, interferenceAt, ert, demand, lowest, counted, pairBound, largestPair, cjaWith, always, cja}

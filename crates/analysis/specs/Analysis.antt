@@ -8,14 +8,7 @@
 --   admitted, admissionOf      admission: the joined set on yes, the old set on no and on a refusal
 --   Counted, RoundsCounted     what the number of rounds in the ITR answer is, for every accepted set; proved in proofs/Claims
 -- Unused places of an answer are 0. Assumes nothing.
-use Prim.Native.Nat.{ℕ, _≤_, _<_, max}
-use mathlib.Core.Path.{_≡_}
-use mathlib.Core.Bool.{Bool, true, false, cond}
-use mathlib.Core.List.{List, []}
-use lib.Dec.{eqb}
-use lib.IntN.{ℤ, pos}
-use lib.ListN.{length}
-use Rattle.laws.specs.Places.{padded}
+use Rattle.laws.specs.Words.{ℕ, _≤_, _<_, max, _≡_, Bool, true, false, cond, List, [], eqb, ℤ, pos, length, padded}
 use Rattle.jobs.specs.declared.job.Job.{Job}
 use Rattle.jobs.specs.declared.set.JobSet.{JobSet}
 use Rattle.jobs.specs.declared.refusal.Refusal.the-variants.{UnknownAlgorithm}

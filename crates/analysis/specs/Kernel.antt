@@ -9,14 +9,7 @@
 --   notBefore                    a time of a job that does not come before one of its predecessor
 --   column, columnsOf            a figure of each job in an array, and those of a table that the bounds are made from
 -- Assumes nothing.
-use Prim.Native.Nat.{ℕ, zero, suc, _+_, _*_, _≤_, _<_, max}
-use mathlib.Core.Path.{_≡_}
-use mathlib.Core.Logic.{_≢_}
-use mathlib.Core.Bool.{cond, _&&_}
-use mathlib.Core.List.{List}
-use lib.Dec.{leb, ltb, eqb}
-use lib.ListN.{getD}
-use Rattle.laws.specs.Places.{tabulate, padded}
+use Rattle.laws.specs.Words.{ℕ, zero, suc, _+_, _*_, _≤_, _<_, max, _≡_, _≢_, cond, _&&_, List, leb, ltb, eqb, getD, tabulate, padded}
 use Rattle.jobs.specs.Limits.{maxJobs, maxRelease, maxTime}
 use Rattle.theory.specs.Table.{Table}
 use Rattle.theory.specs.Bounds.{largestPair}

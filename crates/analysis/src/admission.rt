@@ -1,5 +1,5 @@
 // Admission of a further chain.
-ghost use mathlib.Core.Path.{_≡_};
+ghost use Rattle.laws.specs.Words.{_≡_};
 ghost use Rattle.analysis.specs.Analysis.{admitted as Analysis·admitted, admissionOf};
 use crate::answer::Admission;
 use crate::answer::Verdict;

@@ -1,9 +1,5 @@
 // The largest block of one chain.
-ghost use mathlib.Core.Path.{_≡_};
-ghost use mathlib.Core.Bool.{cond};
-ghost use Prim.Native.Nat.{ℕ, _+_, _-_, _^_, _≤_, _<_};
-ghost use lib.Dec.{eqb};
-ghost use lib.ListN.{getD};
+ghost use Rattle.laws.specs.Words.{_≡_, cond, ℕ, _+_, _-_, _^_, _≤_, _<_, eqb, getD};
 ghost use Rattle.jobs.specs.Limits.{maxJobs, maxTime};
 ghost use Rattle.analysis.specs.Kernel.{weightOf, spanned, opened as Kernel·opened, largestOver};
 use crate::number::larger;

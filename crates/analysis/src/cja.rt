@@ -1,6 +1,5 @@
 // The CJA bounds.
-ghost use mathlib.Core.Path.{_≡_};
-ghost use Rattle.laws.specs.Places.{padded};
+ghost use Rattle.laws.specs.Words.{_≡_, padded};
 ghost use Rattle.jobs.specs.Limits.{maxJobs};
 ghost use Rattle.jobs.specs.Jobs.{jobsOf};
 ghost use Rattle.jobs.specs.Checks.{checkOf};

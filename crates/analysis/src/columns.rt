@@ -1,8 +1,5 @@
 // The figures of a set's jobs that the bounds are made from, a column each, with their effective releases.
-ghost use mathlib.Core.Path.{_≡_};
-ghost use mathlib.Core.Bool.{cond};
-ghost use Prim.Native.Nat.{_≤_};
-ghost use lib.Dec.{eqb};
+ghost use Rattle.laws.specs.Words.{_≡_, cond, _≤_, eqb};
 ghost use Rattle.jobs.specs.declared.refusal.Check.{Check};
 ghost use Rattle.jobs.specs.Jobs.{jobsOf};
 ghost use Rattle.jobs.specs.Checks.{checkOf};

@@ -1,5 +1,5 @@
 // All figures of a set at once, with one run of ITR.
-ghost use mathlib.Core.Path.{_≡_};
+ghost use Rattle.laws.specs.Words.{_≡_};
 ghost use Rattle.analysis.specs.Analysis.{figuresOf};
 use crate::answer::Figures;
 use crate::cja::accepted_cja;

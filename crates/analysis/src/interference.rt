@@ -1,5 +1,5 @@
 // How long the jobs of other chains can hold up a pair, chain by chain.
-ghost use mathlib.Core.Path.{_≡_};
+ghost use Rattle.laws.specs.Words.{_≡_};
 ghost use Rattle.theory.specs.Interference.{interference as Theory·interference};
 ghost use Rattle.analysis.specs.Kernel.{lent, Fit, Ended, spanned};
 use crate::block::share;

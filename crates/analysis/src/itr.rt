@@ -1,8 +1,6 @@
 // The ITR bounds, and the number of rounds that they take.
-ghost use mathlib.Core.Path.{_≡_};
-ghost use Prim.Native.Nat.{_≤_};
+ghost use Rattle.laws.specs.Words.{_≡_, _≤_, padded};
 ghost use Rattle.jobs.specs.Limits.{maxJobs};
-ghost use Rattle.laws.specs.Places.{padded};
 ghost use Rattle.jobs.specs.Jobs.{jobsOf};
 ghost use Rattle.jobs.specs.Checks.{checkOf};
 ghost use Rattle.theory.specs.Releases.{tableOf};

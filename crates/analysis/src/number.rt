@@ -1,6 +1,5 @@
 // The larger and the lower of two numbers.
-ghost use mathlib.Core.Path.{_≡_};
-ghost use Prim.Native.Nat.{max, min};
+ghost use Rattle.laws.specs.Words.{_≡_, max, min};
 
 pub(crate) fn larger(a: u64, b: u64) -> u64
     ensures { λ r. ⌜ r ≡ max a b ⌝ }

@@ -1,6 +1,5 @@
 // The largest sum over the pairs that end with one job.
-ghost use mathlib.Core.Path.{_≡_};
-ghost use Prim.Native.Nat.{_<_};
+ghost use Rattle.laws.specs.Words.{_≡_, _<_};
 ghost use Rattle.analysis.specs.Kernel.{lent, Fit, Ended, roundAt};
 use crate::interference::interference;
 use crate::number::larger;

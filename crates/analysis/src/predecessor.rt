@@ -1,5 +1,5 @@
 // What a job takes over from its predecessor, where it has one.
-ghost use mathlib.Core.Path.{_≡_};
+ghost use Rattle.laws.specs.Words.{_≡_};
 ghost use Rattle.analysis.specs.Kernel.{notBefore};
 use crate::number::larger;
 

@@ -1,6 +1,5 @@
 // One round: CJA for all jobs, where only jobs whose spans overlap count.
-ghost use mathlib.Core.Path.{_≡_};
-ghost use Rattle.laws.specs.Places.{padded};
+ghost use Rattle.laws.specs.Words.{_≡_, padded};
 ghost use Rattle.jobs.specs.Limits.{maxJobs};
 ghost use Rattle.theory.specs.Rounds.{round as Theory·round};
 ghost use Rattle.analysis.specs.Kernel.{lent, Fit, Ended};

@@ -1,8 +1,5 @@
 // The slack of each job: its deadline less its ITR bound.
-ghost use mathlib.Core.Path.{_≡_};
-ghost use Prim.Native.Nat.{_≤_};
-ghost use lib.IntN.{pos};
-ghost use Rattle.laws.specs.Places.{padded};
+ghost use Rattle.laws.specs.Words.{_≡_, _≤_, pos, padded};
 ghost use Rattle.jobs.specs.Limits.{maxJobs, maxDeadline};
 ghost use Rattle.jobs.specs.Jobs.{jobsOf};
 ghost use Rattle.jobs.specs.Checks.{checkOf};

@@ -5,9 +5,7 @@
 --   verdictOfTable   the verdict on a table's text; the refusals of reading come first
 --   roundsOfTable    the rounds of ITR, or the refusal of reading
 -- Assumes nothing.
-use Prim.Native.Nat.{ℕ}
-use mathlib.Core.List.{List}
-use lib.IntN.{ℤ, pos, negℤ}
+use Rattle.laws.specs.Words.{ℕ, List, ℤ, pos, negℤ}
 use Rattle.jobs.specs.declared.refusal.Refusal.{Refusal}
 use Rattle.jobs.specs.declared.refusal.Check.{Check}
 use Rattle.jobs.specs.declared.refusal.Check.the-variants.{Passed, Refused as Stopped}

@@ -8,7 +8,7 @@ use lib.Dec.{leb}
 use lib.ListN.{length, take, drop, set, length-append, length-drop}
 use borrow.Rule.Slice.PartMut.{putMid, put-same}
 use borrow.Author.Tests.{le-leb, lt-leb, leb-true, leb-false}
-use Rattle.laws.specs.Buffers.{patched}
+use Rattle.laws.specs.Words.{patched}
 use Rattle.laws.proofs.Tests.{by-test}
 use Rattle.laws.proofs.Lists.{rest-is}
 use Rattle.laws.proofs.Buffers.{put-rest, Wrote, wrote-more}

@@ -1,11 +1,7 @@
 -- What is proved of decimal digits, for numbers of any size.
 --   Claims   one field for each theorem; proofs/Claims.antt has the proof of all
 -- Assumes nothing.
-use Prim.Native.Nat.{ℕ, suc, _-_, _^_, _≤_, _<_}
-use mathlib.Core.Bool.{false}
-use mathlib.Core.List.{List, [], _++_}
-use mathlib.Core.Path.{_≡_}
-use lib.ListN.{length}
+use Rattle.laws.specs.Words.{ℕ, suc, _-_, _^_, _≤_, _<_, false, List, [], _++_, _≡_, length}
 use Rattle.decimal.specs.Digits.{digitCount, decimal, valueOf}
 use Rattle.decimal.specs.Fields.{maxDigits, digitRun, leadingZero, fieldOf}
 use Rattle.decimal.specs.declared.field.Field.the-variants.{Number}

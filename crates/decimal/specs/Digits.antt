@@ -6,10 +6,7 @@
 --   valueFrom a text   the number that digits spell after the number a
 --   valueOf text       the number that digits spell
 -- Assumes nothing.
-use Prim.Native.Nat.{ℕ, zero, suc, _+_, _-_, _*_, _/_, _%_}
-use mathlib.Core.Bool.{cond}
-use mathlib.Core.List.{List, [], _∷_, _++_}
-use lib.Dec.{ltb}
+use Rattle.laws.specs.Words.{ℕ, zero, suc, _+_, _-_, _*_, _/_, _%_, cond, List, [], _∷_, _++_, ltb}
 
 -- Below ten there is one digit, else one more than without the last digit; f only ends the recursion.
 unfoldable pub countUpTo : ℕ → ℕ → ℕ

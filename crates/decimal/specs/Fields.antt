@@ -6,11 +6,7 @@
 --   isNumeral digits      1 to maxDigits digits, with no leading zero except in 0 itself
 --   fieldOf text          the number at the start of a text and how many bytes it takes, or no number
 -- Assumes nothing.
-use Prim.Native.Nat.{ℕ}
-use mathlib.Core.Bool.{Bool, false, cond, not, _&&_}
-use mathlib.Core.List.{List, [], _∷_}
-use lib.Dec.{leb, eqb}
-use lib.ListN.{length}
+use Rattle.laws.specs.Words.{ℕ, Bool, false, cond, not, _&&_, List, [], _∷_, leb, eqb, length}
 use Rattle.decimal.specs.Digits.{valueOf}
 use Rattle.decimal.specs.declared.field.Field.{Field}
 use Rattle.decimal.specs.declared.field.Field.the-variants.{Number, NoNumber}

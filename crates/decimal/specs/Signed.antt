@@ -1,9 +1,7 @@
 -- The text of an integer of any size.
 --   signed z   the digits of z, after a minus sign where z is below zero
 -- Assumes nothing.
-use Prim.Native.Nat.{ℕ, suc}
-use mathlib.Core.List.{List, _∷_}
-use lib.IntN.{ℤ, pos, negsuc}
+use Rattle.laws.specs.Words.{ℕ, suc, List, _∷_, ℤ, pos, negsuc}
 use Rattle.decimal.specs.Digits.{decimal}
 
 -- `negsuc n` is the integer below zero of size n + 1; the code of the minus sign is 45.

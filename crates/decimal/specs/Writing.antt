@@ -2,11 +2,7 @@
 --   written text buffer         the buffer after the writer
 --   writtenLength text buffer   how many bytes it wrote
 -- Assumes nothing.
-use Prim.Native.Nat.{ℕ}
-use mathlib.Core.Bool.{cond}
-use mathlib.Core.List.{List, _++_}
-use lib.Dec.{leb}
-use lib.ListN.{length, drop}
+use Rattle.laws.specs.Words.{ℕ, cond, List, _++_, leb, length, drop}
 
 -- The text at the start, with all after it as it was; where the text does not fit, the buffer as it was.
 unfoldable pub written : List ℕ → List ℕ → List ℕ

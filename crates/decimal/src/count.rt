@@ -1,5 +1,5 @@
 // How many digits a number has.
-ghost use mathlib.Core.Path.{_≡_};
+ghost use Rattle.laws.specs.Words.{_≡_};
 ghost use Rattle.decimal.specs.Digits.{digitCount};
 
 // How many digits value has, found by comparing it with the powers of ten.

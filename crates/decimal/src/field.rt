@@ -1,7 +1,5 @@
 // Reading a number from the rest of a text.
-ghost use mathlib.Core.Path.{_≡_};
-ghost use mathlib.Core.Bool.{cond, true, false};
-ghost use lib.Dec.{eqb};
+ghost use Rattle.laws.specs.Words.{_≡_, cond, true, false, eqb};
 ghost use Rattle.decimal.specs.Fields.{isDigit, maxDigits, fieldOf};
 
 // The most digits a field's number has.

@@ -1,7 +1,5 @@
 // Writing a number with its sign.
-ghost use mathlib.Core.Path.{_≡_};
-ghost use lib.ListN.{length};
-ghost use lib.IntN.{pos, natAbs};
+ghost use Rattle.laws.specs.Words.{_≡_, length, pos, natAbs};
 ghost use lib.Signed.{ltZ};
 ghost use Rattle.decimal.specs.Signed.{signed};
 ghost use Rattle.decimal.specs.Writing.{written, writtenLength};

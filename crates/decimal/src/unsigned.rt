@@ -1,8 +1,5 @@
 // Writing a number without a sign.
-ghost use mathlib.Core.Path.{_≡_};
-ghost use mathlib.Core.List.{_++_};
-ghost use Prim.Native.Nat.{_≤_};
-ghost use lib.ListN.{length, drop};
+ghost use Rattle.laws.specs.Words.{_≡_, _++_, _≤_, length, drop};
 ghost use Rattle.decimal.specs.Digits.{lastDigits, decimal};
 ghost use Rattle.decimal.specs.Writing.{written, writtenLength};
 use crate::count::digit_count;

@@ -10,7 +10,7 @@ use lib.ListN.{length, take, drop}
 use lib.Seq.{take-suc, drop-cons, length-take-le}
 use lib.Dec.{leb, ltb, eqb}
 use borrow.Author.Tests.{leb-true, leb-false, ltb-true, eqb-true, eq-eqb, ne-eqb, le-leb, lt-ltb}
-use Rattle.laws.specs.Places.{lastOf}
+use Rattle.laws.specs.Words.{lastOf}
 use Rattle.laws.proofs.Tests.{by-test, and-left, and-right}
 use Rattle.jobs.specs.declared.job.Job.{Job}
 use Rattle.jobs.specs.declared.refusal.Refusal.{Refusal}

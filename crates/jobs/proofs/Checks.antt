@@ -7,7 +7,7 @@ use native.Mathlib.Numerals.{add-one}
 use lib.ListN.{length, take, drop, drop-of-length-le}
 use lib.Seq.{take-suc, drop-cons, length-take-le}
 use borrow.Author.Tests.{le-ltb}
-use Rattle.laws.specs.Places.{lastOf}
+use Rattle.laws.specs.Words.{lastOf}
 use Rattle.laws.proofs.Lists.{last-snoc}
 use Rattle.jobs.specs.declared.job.Job.{Job}
 use Rattle.jobs.specs.declared.refusal.Refusal.{Refusal}

@@ -7,7 +7,7 @@ use native.Mathlib.Nat.{add-zero}
 use native.Mathlib.Numerals.{add-one}
 use lib.ListN.{length, take, drop, getD, length-append, drop-of-length-le}
 use lib.Seq.{take-suc, drop-cons, take-all, length-take-le}
-use Rattle.laws.specs.Places.{lastOf}
+use Rattle.laws.specs.Words.{lastOf}
 use Rattle.laws.proofs.Lists.{last-snoc}
 use Rattle.jobs.specs.declared.job.Job.{Job}
 use Rattle.jobs.specs.declared.set.JobSet.{JobSet}

@@ -4,11 +4,7 @@
 --   jobAt      the job at a place, and no job beyond the last
 --   Accepted   all of it
 -- Assumes nothing.
-use Prim.Native.Nat.{ℕ, suc, _+_, _≤_, _<_}
-use mathlib.Core.Path.{_≡_}
-use mathlib.Core.List.{List}
-use mathlib.Core.Logic.{_⊎_}
-use lib.ListN.{length, getD}
+use Rattle.laws.specs.Words.{ℕ, suc, _+_, _≤_, _<_, _≡_, List, _⊎_, length, getD}
 use Rattle.jobs.specs.declared.job.Job.{Job}
 use Rattle.jobs.specs.Limits.{maxJobs, maxChains, maxRelease, maxPriority, maxTime, maxDeadline}
 use Rattle.jobs.specs.Jobs.{noJob}

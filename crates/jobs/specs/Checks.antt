@@ -3,9 +3,7 @@
 --   anyRecord      7
 --   checkOf        both; a set is accepted where this passes
 -- Assumes nothing.
-use mathlib.Core.List.{List, [], _∷_, _++_}
-use lib.ListN.{length}
-use Rattle.laws.specs.Places.{lastOf}
+use Rattle.laws.specs.Words.{List, [], _∷_, _++_, length, lastOf}
 use Rattle.jobs.specs.declared.job.Job.{Job}
 use Rattle.jobs.specs.declared.refusal.Refusal.the-variants.{NoRecord}
 use Rattle.jobs.specs.declared.refusal.Check.{Check}

@@ -3,9 +3,7 @@
 --   jobsOf    a set's records, as many as it counts
 --   setOf     the set that holds these jobs, and no job in its other places
 -- Assumes nothing.
-use mathlib.Core.List.{List}
-use lib.ListN.{length, getD}
-use Rattle.laws.specs.Places.{tabulate, padded}
+use Rattle.laws.specs.Words.{List, length, getD, tabulate, padded}
 use Rattle.jobs.specs.declared.job.Job.{Job}
 use Rattle.jobs.specs.declared.set.JobSet.{JobSet}
 use Rattle.jobs.specs.Limits.{maxJobs}

@@ -5,9 +5,7 @@
 --   joinCheck   4 to 6 over the joined records, then 7 where there is no new one
 --   joinOf      the joined set, or the refusal and the old set as it was
 -- Assumes nothing.
-use Prim.Native.Nat.{ℕ, _+_}
-use mathlib.Core.List.{List, [], _∷_, _++_}
-use Rattle.laws.specs.Places.{lastOf}
+use Rattle.laws.specs.Words.{ℕ, _+_, List, [], _∷_, _++_, lastOf}
 use Rattle.jobs.specs.declared.job.Job.{Job}
 use Rattle.jobs.specs.declared.set.JobSet.{JobSet}
 use Rattle.jobs.specs.declared.refusal.Check.{Check}

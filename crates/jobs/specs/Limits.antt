@@ -1,5 +1,5 @@
 -- The greatest values of a job table. Document 01, "A job table". Assumes nothing.
-use Prim.Native.Nat.{ℕ}
+use Rattle.laws.specs.Words.{ℕ}
 
 abbrev pub maxJobs : ℕ
 maxJobs = 64

@@ -3,9 +3,7 @@
 --   inLimits      chain number and values are within their limits, and least does not exceed most
 --   recordCheck   4 to 6 in their order
 -- Assumes nothing.
-use Prim.Native.Nat.{ℕ, _+_}
-use mathlib.Core.Bool.{Bool, cond, _&&_}
-use lib.Dec.{leb, ltb, eqb}
+use Rattle.laws.specs.Words.{ℕ, _+_, Bool, cond, _&&_, leb, ltb, eqb}
 use Rattle.jobs.specs.declared.job.Job.{Job}
 use Rattle.jobs.specs.declared.refusal.Refusal.the-variants.{TooManyRecords, OutOfOrder, OutOfLimits}
 use Rattle.jobs.specs.declared.refusal.Check.{Check}

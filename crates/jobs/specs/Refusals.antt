@@ -3,8 +3,7 @@
 --   unless     one check in a sequence
 --   andThen    two checks in sequence
 -- Assumes nothing.
-use Prim.Native.Nat.{ℕ}
-use mathlib.Core.Bool.{Bool, true, false}
+use Rattle.laws.specs.Words.{ℕ, Bool, true, false}
 use Rattle.jobs.specs.declared.refusal.Refusal.{Refusal}
 use Rattle.jobs.specs.declared.refusal.Refusal.the-variants.{TextTooLong, NotHeader, MalformedLine, TooManyRecords, OutOfOrder, OutOfLimits, NoRecord, RunningTimes, ShortBuffer, UnknownAlgorithm, ImpossibleState}
 use Rattle.jobs.specs.declared.refusal.Check.{Check}

@@ -1,6 +1,5 @@
 // The check of a set handed by value, whatever it holds.
-ghost use mathlib.Core.Path.{_≡_};
-ghost use mathlib.Core.List.{[]};
+ghost use Rattle.laws.specs.Words.{_≡_, []};
 ghost use Rattle.jobs.specs.Jobs.{jobsOf};
 ghost use Rattle.jobs.specs.Checks.{recordsCheck, checkOf};
 use crate::job::Job;

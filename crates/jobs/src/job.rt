@@ -1,5 +1,5 @@
 // A job: a record of the table.
-ghost use mathlib.Core.Path.{_≡_};
+ghost use Rattle.laws.specs.Words.{_≡_};
 ghost use Rattle.jobs.specs.Jobs.{noJob};
 
 pub struct Job {

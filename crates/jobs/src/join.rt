@@ -1,8 +1,5 @@
 // A further chain joins a set as its highest-numbered one.
-ghost use mathlib.Core.Path.{_≡_};
-ghost use mathlib.Core.List.{[]};
-ghost use Prim.Native.Nat.{_+_, _≤_};
-ghost use Rattle.laws.specs.Places.{lastOf};
+ghost use Rattle.laws.specs.Words.{_≡_, [], _+_, _≤_, lastOf};
 ghost use Rattle.jobs.specs.Limits.{maxJobs};
 ghost use Rattle.jobs.specs.Jobs.{noJob, jobsOf, setOf};
 ghost use Rattle.jobs.specs.Checks.{recordsCheck};

@@ -1,7 +1,5 @@
 // The checks of one record, refusals 4 to 6: how many there are, its place in the order, and its limits.
-ghost use mathlib.Core.Path.{_≡_};
-ghost use Prim.Native.Nat.{_+_};
-ghost use lib.Dec.{eqb};
+ghost use Rattle.laws.specs.Words.{_≡_, _+_, eqb};
 ghost use Rattle.jobs.specs.Records.{isNext, inLimits, recordCheck};
 use crate::job::Job;
 use crate::refusal::Check;

@@ -1,5 +1,5 @@
 // The reasons for which an operation is refused, and the number of each.
-ghost use mathlib.Core.Path.{_≡_};
+ghost use Rattle.laws.specs.Words.{_≡_};
 ghost use Rattle.jobs.specs.Refusals.{numberOf};
 
 pub enum Refusal {

@@ -1,6 +1,5 @@
 // A set of jobs, by value. Places from count on hold no job.
-ghost use mathlib.Core.Path.{_≡_};
-ghost use mathlib.Core.List.{[]};
+ghost use Rattle.laws.specs.Words.{_≡_, []};
 ghost use Rattle.jobs.specs.Jobs.{setOf};
 use crate::job::Job;
 

@@ -8,7 +8,7 @@ use mathlib.Core.List.{List, [], _∷_, map}
 use native.Mathlib.Omega.{arith}
 use lib.IntN.{pos, negsuc}
 use lib.ListN.{length, getD}
-use Rattle.laws.specs.Places.{sumBelow, tabulate, greatest, lastOf}
+use Rattle.laws.specs.Words.{sumBelow, tabulate, greatest, lastOf}
 use Rattle.jobs.specs.declared.job.Job.{Job}
 use Rattle.jobs.specs.declared.refusal.Check.the-variants.{Passed}
 use Rattle.jobs.specs.Records.{isNext, inLimits, recordCheck}

@@ -8,12 +8,7 @@
 --   cases          the table of cases
 -- Where document 01 gives no deadline, priority or least time, one is chosen here. Of runs it gives the rows of P2, a completion of P3 and the end
 -- of P4; the other figures of runs are worked out by hand from its rules. Assumes nothing.
-use Prim.Native.Nat.{ℕ}
-use mathlib.Core.Bool.{Bool, true, false}
-use mathlib.Core.List.{List, [], _∷_, _++_, map}
-use lib.IntN.{ℤ, pos, negsuc}
-use lib.ListN.{length, getD}
-use Rattle.laws.specs.Places.{tabulate}
+use Rattle.laws.specs.Words.{ℕ, Bool, true, false, List, [], _∷_, _++_, map, ℤ, pos, negsuc, length, getD, tabulate}
 use Rattle.jobs.specs.declared.job.Job.{Job}
 use Rattle.jobs.specs.declared.refusal.Check.{Check}
 use Rattle.jobs.specs.declared.refusal.Check.the-variants.{Passed}

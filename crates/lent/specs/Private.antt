@@ -6,10 +6,7 @@
 --   readyBy      a record is ready
 --   lookedAt     the scan after one more record
 -- Assumes nothing.
-use Prim.Native.Nat.{ℕ, _-_, min}
-use mathlib.Core.Bool.{Bool, true, cond, not, _&&_}
-use mathlib.Core.List.{List}
-use lib.Dec.{leb, ltb, eqb}
+use Rattle.laws.specs.Words.{ℕ, _-_, min, Bool, true, cond, not, _&&_, List, leb, ltb, eqb}
 use Rattle.jobs.specs.declared.job.Job.{Job}
 use Rattle.machine.specs.declared.state.State.{State}
 use Rattle.machine.specs.declared.pick.Best.{Best}

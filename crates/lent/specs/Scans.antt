@@ -2,10 +2,7 @@
 --   bestScan   a scan by its pick and by what it knows of the last record
 --   scanOf     what a scan of the first n records knows
 -- Assumes nothing.
-use Prim.Native.Nat.{ℕ, zero, suc, _-_}
-use mathlib.Core.Bool.{Bool, false}
-use mathlib.Core.List.{List}
-use lib.Dec.{leb}
+use Rattle.laws.specs.Words.{ℕ, zero, suc, _-_, Bool, false, List, leb}
 use Rattle.jobs.specs.declared.job.Job.{Job}
 use Rattle.theory.specs.Releases.{tableOf}
 use Rattle.machine.specs.declared.state.State.{State}

@@ -1,7 +1,5 @@
 // The scan over lent job records, which changes none.
-ghost use mathlib.Core.Path.{_≡_};
-ghost use lib.ListN.{length, getD};
-ghost use mathlib.Core.Bool.{cond};
+ghost use Rattle.laws.specs.Words.{_≡_, length, getD, cond};
 ghost use Rattle.machine.specs.Best.{better};
 ghost use Rattle.lent.specs.Scans.{scanOf};
 ghost use Rattle.lent.specs.Private.{follows, releasedBy, sinceBy, kept, readyBy, lookedAt};

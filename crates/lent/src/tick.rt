@@ -1,5 +1,5 @@
 // One tick in the caller's memory.
-ghost use mathlib.Core.Path.{_≡_};
+ghost use Rattle.laws.specs.Words.{_≡_};
 ghost use Rattle.jobs.specs.Jobs.{jobsOf};
 ghost use Rattle.machine.specs.Steps.{stepOf};
 use jobs::set::JobSet;

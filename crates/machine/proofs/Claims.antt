@@ -6,7 +6,7 @@ use mathlib.Core.List.{List}
 use native.Mathlib.Omega.{arith}
 use native.Mathlib.Nat.{zero-add}
 use lib.ListN.{length, getD}
-use Rattle.laws.specs.Places.{tabulate}
+use Rattle.laws.specs.Words.{tabulate}
 use Rattle.laws.proofs.Tests.{by-test, by-order}
 use Rattle.laws.proofs.Tabulate.{getD-tabulate}
 use Rattle.jobs.specs.declared.job.Job.{Job}

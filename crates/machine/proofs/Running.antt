@@ -12,7 +12,7 @@ use lib.ListN.{length, getD, set, length-set, replicate, length-replicate}
 use lib.Seq.{getD-set-same, getD-set-other, ext-getD}
 use lib.ListN as ListN
 use borrow.Author.Tests.{eq-eqb, ne-eqb}
-use Rattle.laws.specs.Places.{tabulate}
+use Rattle.laws.specs.Words.{tabulate}
 use Rattle.laws.proofs.Tests.{by-test, by-equal}
 use Rattle.laws.proofs.Sums.{sum-zero}
 use Rattle.laws.proofs.Tabulate.{length-tabulate, getD-tabulate}

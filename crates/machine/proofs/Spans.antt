@@ -12,7 +12,7 @@ use native.Mathlib.Numerals.{add-one}
 use lib.Dec.{ltb, eqb}
 use lib.ListN.{length, getD, length-set, replicate, length-replicate}
 use borrow.Author.Tests.{lt-ltb, eqb-true, eq-eqb}
-use Rattle.laws.specs.Places.{sumBelow}
+use Rattle.laws.specs.Words.{sumBelow}
 use Rattle.laws.proofs.Tests.{by-test, by-equal, both-ways, and-left, cond-one}
 use Rattle.laws.proofs.Sums.{sum-ext, sum-bump, sum-const}
 use Rattle.jobs.specs.Limits.{maxJobs}

@@ -13,7 +13,7 @@ use lib.Dec.{eqb}
 use lib.ListN.{length, set, drop, length-append}
 use lib.Seq.{take-at, drop-append-add}
 use borrow.Author.Tests.{lt-ltb, lt-leb, le-leb, eqb-true}
-use Rattle.laws.specs.Buffers.{patched}
+use Rattle.laws.specs.Words.{patched}
 use Rattle.laws.proofs.Tests.{by-test, and-left}
 use Rattle.laws.proofs.Buffers.{patched-more, length-patched}
 use Rattle.jobs.specs.declared.job.Job.{Job}

@@ -3,9 +3,7 @@
 --   better       the best after a ready job
 --   considered   the best after one more job
 -- Assumes nothing.
-use Prim.Native.Nat.{ℕ}
-use mathlib.Core.Bool.{true, false, cond}
-use mathlib.Core.List.{List}
+use Rattle.laws.specs.Words.{ℕ, true, false, cond, List}
 use Rattle.theory.specs.Table.{Table}
 use Rattle.theory.specs.Runs.{Entry, idle, runs}
 use Rattle.machine.specs.declared.state.State.{State}

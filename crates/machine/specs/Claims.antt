@@ -8,12 +8,7 @@
 --   GivesBack       the trace, read as spans, gives back the entries
 --   WithinTwice     the trace has at most twice as many entries as there are jobs
 -- Each is proved in proofs/Claims under the name that its comment gives. Assumes nothing.
-use Prim.Native.Nat.{ℕ, _*_, _≤_, _<_}
-use mathlib.Core.Path.{_≡_}
-use mathlib.Core.Bool.{cond, _&&_}
-use mathlib.Core.List.{List, [], _∷_}
-use lib.Dec.{leb, ltb}
-use lib.ListN.{length, getD}
+use Rattle.laws.specs.Words.{ℕ, _*_, _≤_, _<_, _≡_, cond, _&&_, List, [], _∷_, leb, ltb, length, getD}
 use Rattle.jobs.specs.declared.job.Job.{Job}
 use Rattle.jobs.specs.declared.refusal.Check.the-variants.{Passed}
 use Rattle.theory.specs.Releases.{tableOf}

@@ -1,8 +1,7 @@
 -- A test of each place.
 --   everyBelow n f   whether f holds at 0, 1, …, n - 1
 -- Assumes nothing.
-use Prim.Native.Nat.{ℕ, zero, suc}
-use mathlib.Core.Bool.{Bool, true, _&&_}
+use Rattle.laws.specs.Words.{ℕ, zero, suc, Bool, true, _&&_}
 
 unfoldable pub everyBelow : ℕ → (ℕ → Bool) → Bool
 everyBelow zero f = true

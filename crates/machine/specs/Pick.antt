@@ -5,10 +5,7 @@
 --   pickUpTo    what runs of the first n jobs, or idle
 --   pick        what runs of all jobs in a state's next tick
 -- Assumes nothing.
-use Prim.Native.Nat.{ℕ, zero, suc}
-use mathlib.Core.Bool.{Bool, cond, _&&_, _||_}
-use mathlib.Core.List.{List}
-use lib.Dec.{ltb, eqb}
+use Rattle.laws.specs.Words.{ℕ, zero, suc, Bool, cond, _&&_, _||_, List, ltb, eqb}
 use Rattle.theory.specs.Table.{Table}
 use Rattle.theory.specs.Runs.{Entry, idle, runs}
 use Rattle.machine.specs.declared.state.State.{State}

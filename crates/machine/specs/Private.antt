@@ -11,13 +11,7 @@
 --   nextRelease  the first release that is still to come
 --   nextTime     when the machine has to be looked at again after a tick
 -- Assumes nothing.
-use Prim.Native.Nat.{ℕ, zero, suc, _+_, _-_, _≤_, _<_, max, min}
-use mathlib.Core.Path.{_≡_}
-use mathlib.Core.Bool.{Bool, cond, _&&_}
-use mathlib.Core.List.{List}
-use lib.Dec.{ltb, eqb}
-use lib.ListN.{length, getD}
-use Rattle.laws.specs.Places.{sumBelow}
+use Rattle.laws.specs.Words.{ℕ, zero, suc, _+_, _-_, _≤_, _<_, max, min, _≡_, Bool, cond, _&&_, List, ltb, eqb, length, getD, sumBelow}
 use Rattle.jobs.specs.declared.job.Job.{Job}
 use Rattle.jobs.specs.declared.refusal.Check.the-variants.{Passed}
 use Rattle.jobs.specs.Limits.{maxJobs, maxTime}

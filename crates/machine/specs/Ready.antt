@@ -3,11 +3,7 @@
 --   predecessorComplete   where a job has a predecessor, that is complete
 --   ready                 a job may run in the state's next tick
 -- Assumes nothing.
-use Prim.Native.Nat.{ℕ, zero, suc}
-use mathlib.Core.Bool.{Bool, true, cond, not, _&&_}
-use mathlib.Core.List.{List}
-use lib.Dec.{leb, eqb}
-use lib.ListN.{getD}
+use Rattle.laws.specs.Words.{ℕ, zero, suc, Bool, true, cond, not, _&&_, List, leb, eqb, getD}
 use Rattle.theory.specs.Table.{Table, joined}
 use Rattle.machine.specs.declared.state.State.{State}
 

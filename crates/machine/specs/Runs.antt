@@ -7,11 +7,7 @@
 --   completions   each job's completion time, and 0 in the places beyond the jobs
 --   runOf         the answer of a run: completions and end, or the refusal
 -- Assumes nothing.
-use Prim.Native.Nat.{ℕ, zero, suc}
-use mathlib.Core.Bool.{cond}
-use mathlib.Core.List.{List}
-use lib.ListN.{replicate}
-use Rattle.laws.specs.Places.{tabulate}
+use Rattle.laws.specs.Words.{ℕ, zero, suc, cond, List, replicate, tabulate}
 use Rattle.jobs.specs.declared.job.Job.{Job}
 use Rattle.jobs.specs.declared.refusal.Check.{Check}
 use Rattle.jobs.specs.declared.refusal.Check.the-variants.{Passed, Refused}

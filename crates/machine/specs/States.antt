@@ -2,8 +2,7 @@
 --   lastTime   the greatest time of a state; no run from time 0 reaches it
 --   start      time 0, and no work done
 -- Assumes nothing.
-use Prim.Native.Nat.{ℕ}
-use lib.ListN.{replicate}
+use Rattle.laws.specs.Words.{ℕ, replicate}
 use Rattle.jobs.specs.Limits.{maxJobs}
 use Rattle.machine.specs.declared.state.State.{State}
 

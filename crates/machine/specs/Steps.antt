@@ -4,11 +4,7 @@
 --   stepCheck    4 to 7, then 8, then 11
 --   stepOf       the answer and the state after a tick, or the refusal and the state as it was
 -- Assumes nothing.
-use Prim.Native.Nat.{ℕ}
-use mathlib.Core.Bool.{Bool, _&&_, _||_}
-use mathlib.Core.List.{List}
-use lib.Dec.{leb, ltb, eqb}
-use lib.ListN.{getD}
+use Rattle.laws.specs.Words.{ℕ, Bool, _&&_, _||_, List, leb, ltb, eqb, getD}
 use Rattle.jobs.specs.declared.job.Job.{Job}
 use Rattle.jobs.specs.declared.refusal.Refusal.the-variants.{ImpossibleState}
 use Rattle.jobs.specs.declared.refusal.Check.{Check}

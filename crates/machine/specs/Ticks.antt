@@ -5,10 +5,7 @@
 --   ranAs         what a tick with this entry answers
 --   tickOf        the answer and the state after one tick
 -- Assumes nothing.
-use Prim.Native.Nat.{ℕ, _+_}
-use mathlib.Core.Bool.{Bool, cond}
-use mathlib.Core.List.{List}
-use lib.ListN.{getD, set}
+use Rattle.laws.specs.Words.{ℕ, _+_, Bool, cond, List, getD, set}
 use Rattle.jobs.specs.declared.job.Job.{Job}
 use Rattle.jobs.specs.Accepted.{jobAt}
 use Rattle.theory.specs.Table.{Table}

@@ -3,11 +3,7 @@
 --   timesFit       the running times are one for each job, each in its range
 --   machineCheck   what the machine's operations check of a set and its running times: 4 to 7, then 8
 -- Assumes nothing.
-use Prim.Native.Nat.{ℕ}
-use mathlib.Core.Bool.{Bool, _&&_}
-use mathlib.Core.List.{List}
-use lib.Dec.{leb, eqb}
-use lib.ListN.{length, getD}
+use Rattle.laws.specs.Words.{ℕ, Bool, _&&_, List, leb, eqb, length, getD}
 use Rattle.jobs.specs.declared.job.Job.{Job}
 use Rattle.jobs.specs.declared.refusal.Refusal.the-variants.{RunningTimes}
 use Rattle.jobs.specs.declared.refusal.Check.{Check}

@@ -7,12 +7,7 @@
 --   traceOf       the answer of a trace: how many entries it has, or the refusal
 --   tracedIn      what it leaves in the lent buffer
 -- Assumes nothing.
-use Prim.Native.Nat.{ℕ, zero, suc, _+_, _*_}
-use mathlib.Core.Bool.{Bool, false, cond, _&&_}
-use mathlib.Core.List.{List, [], _∷_, _++_}
-use lib.Dec.{leb, eqb}
-use lib.ListN.{length}
-use Rattle.laws.specs.Buffers.{patched}
+use Rattle.laws.specs.Words.{ℕ, zero, suc, _+_, _*_, Bool, false, cond, _&&_, List, [], _∷_, _++_, leb, eqb, length, patched}
 use Rattle.jobs.specs.declared.job.Job.{Job}
 use Rattle.jobs.specs.declared.refusal.Refusal.the-variants.{ShortBuffer}
 use Rattle.jobs.specs.declared.refusal.Check.{Check}

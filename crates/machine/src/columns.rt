@@ -1,6 +1,5 @@
 // The figures of a set that the scan reads at every tick, as columns; effective releases are worked out once.
-ghost use mathlib.Core.Path.{_≡_};
-ghost use Prim.Native.Nat.{_+_, _<_, _^_};
+ghost use Rattle.laws.specs.Words.{_≡_, _+_, _<_, _^_};
 ghost use Rattle.jobs.specs.Jobs.{jobsOf};
 ghost use Rattle.jobs.specs.Accepted.{Accepted};
 ghost use Rattle.theory.specs.Releases.{tableOf};

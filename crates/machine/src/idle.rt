@@ -1,7 +1,5 @@
 // Idle time: while no job is ready, nothing changes before the next release.
-ghost use mathlib.Core.Path.{_≡_};
-ghost use Prim.Native.Nat.{_<_, _≤_};
-ghost use lib.ListN.{getD};
+ghost use Rattle.laws.specs.Words.{_≡_, _<_, _≤_, getD};
 ghost use Rattle.jobs.specs.Limits.{maxJobs};
 ghost use Rattle.machine.specs.States.{lastTime};
 ghost use Rattle.machine.specs.Private.{sooner as Private·sooner, nextRelease, nextTime};

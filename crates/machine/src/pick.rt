@@ -1,7 +1,5 @@
 // The pick: of the ready jobs, the one of highest priority and, among equals, of the lowest chain number.
-ghost use mathlib.Core.Path.{_≡_};
-ghost use Prim.Native.Nat.{_<_, _≤_};
-ghost use lib.ListN.{length};
+ghost use Rattle.laws.specs.Words.{_≡_, _<_, _≤_, length};
 ghost use Rattle.jobs.specs.Limits.{maxJobs};
 ghost use Rattle.machine.specs.Pick.{outranks, pickUpTo};
 ghost use Rattle.machine.specs.Private.{seen, stateOf};

@@ -1,8 +1,5 @@
 // Which jobs are ready, from columns of their figures.
-ghost use mathlib.Core.Path.{_≡_};
-ghost use mathlib.Core.List.{[]};
-ghost use Prim.Native.Nat.{_<_, _≤_};
-ghost use lib.ListN.{length};
+ghost use Rattle.laws.specs.Words.{_≡_, [], _<_, _≤_, length};
 ghost use Rattle.jobs.specs.Limits.{maxJobs};
 ghost use Rattle.machine.specs.Ready.{complete, predecessorComplete, ready};
 ghost use Rattle.machine.specs.Ticks.{allComplete};

@@ -1,5 +1,5 @@
 // The run from time 0.
-ghost use mathlib.Core.Path.{_≡_};
+ghost use Rattle.laws.specs.Words.{_≡_};
 ghost use Rattle.jobs.specs.Jobs.{jobsOf};
 ghost use Rattle.machine.specs.Times.{machineCheck};
 ghost use Rattle.machine.specs.Runs.{runOf};

@@ -1,5 +1,5 @@
 // The machine's state: the time, and the ticks of work done of each job.
-ghost use mathlib.Core.Path.{_≡_};
+ghost use Rattle.laws.specs.Words.{_≡_};
 ghost use Rattle.machine.specs.States.{start};
 use jobs::set::JobSet;
 

@@ -1,8 +1,5 @@
 // One tick on a state, by value, with its checks.
-ghost use mathlib.Core.Path.{_≡_};
-ghost use mathlib.Core.List.{[]};
-ghost use Prim.Native.Nat.{_<_, _≤_};
-ghost use lib.ListN.{length};
+ghost use Rattle.laws.specs.Words.{_≡_, [], _<_, _≤_, length};
 ghost use Rattle.jobs.specs.Limits.{maxJobs};
 ghost use Rattle.jobs.specs.Jobs.{jobsOf};
 ghost use Rattle.theory.specs.Releases.{tableOf};

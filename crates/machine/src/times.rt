@@ -1,8 +1,5 @@
 // The check of running times, refusal 8, after those of the set.
-ghost use mathlib.Core.Path.{_≡_};
-ghost use Prim.Native.Nat.{_≤_, _*_};
-ghost use lib.ListN.{length};
-ghost use Rattle.laws.specs.Places.{sumBelow};
+ghost use Rattle.laws.specs.Words.{_≡_, _≤_, _*_, length, sumBelow};
 ghost use Rattle.jobs.specs.Limits.{maxJobs};
 ghost use Rattle.jobs.specs.Jobs.{jobsOf};
 ghost use Rattle.theory.specs.Releases.{tableOf};

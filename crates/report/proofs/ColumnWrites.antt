@@ -6,7 +6,7 @@ use native.Mathlib.Omega.{arith}
 use lib.ListN.{length, take, getD, set, length-set}
 use lib.Seq.{take-length}
 use borrow.Rule.Slice.PartMut.{putMid}
-use Rattle.laws.specs.Buffers.{patched}
+use Rattle.laws.specs.Words.{patched}
 use Rattle.laws.proofs.Buffers.{Wrote, wrote-none, wrote-one}
 use Rattle.laws.proofs.Pieces.{Made, PiecesWritten, pieces-none, pieces-end}
 use Rattle.decimal.specs.Digits.{decimal}

@@ -8,7 +8,7 @@ use lib.Dec.{eqb}
 use lib.ListN.{length, take, getD, length-map}
 use lib.Seq.{take-at}
 use borrow.Author.Tests.{eq-eqb, le-leb}
-use Rattle.laws.specs.Places.{tabulate, padded}
+use Rattle.laws.specs.Words.{tabulate, padded}
 use Rattle.laws.proofs.Lists.{length-padded}
 use Rattle.laws.proofs.Tests.{and-both}
 use Rattle.jobs.specs.declared.job.Job.{Job}

@@ -6,7 +6,7 @@ use native.Mathlib.Omega.{arith}
 use lib.Dec.{leb}
 use lib.ListN.{length, length-append}
 use borrow.Author.Tests.{leb-true, leb-false}
-use Rattle.laws.specs.Text.{ascii}
+use Rattle.laws.specs.Words.{ascii}
 use Rattle.decimal.specs.Digits.{digitCount, decimal}
 use Rattle.decimal.specs.Writing.{writtenLength}
 use Rattle.decimal.proofs.Values.{length-decimal}

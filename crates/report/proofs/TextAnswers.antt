@@ -6,7 +6,7 @@ use native.Mathlib.Omega.{arith}
 use lib.IntN.{ℤ, pos}
 use lib.ListN.{length}
 use borrow.Author.Tests.{le-leb, lt-leb}
-use Rattle.laws.specs.Places.{padded}
+use Rattle.laws.specs.Words.{padded}
 use Rattle.laws.proofs.Lists.{getD-padded}
 use Rattle.jobs.specs.declared.set.JobSet.{JobSet}
 use Rattle.jobs.specs.declared.refusal.Refusal.the-variants.{ShortBuffer}

@@ -4,8 +4,7 @@
 --   columnsFrom   numbers as the columns from k on
 --   columnsText   numbers as the columns of a line
 -- Assumes nothing.
-use Prim.Native.Nat.{ℕ, zero, suc}
-use mathlib.Core.List.{List, [], _∷_, _++_}
+use Rattle.laws.specs.Words.{ℕ, zero, suc, List, [], _∷_, _++_}
 use Rattle.decimal.specs.Digits.{decimal}
 
 abbrev pub mostColumns : ℕ

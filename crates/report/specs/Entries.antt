@@ -2,8 +2,7 @@
 --   spanText    the row of a span: chain, job, from, to
 --   spansText   the rows of spans, the earliest first
 -- Assumes nothing.
-use Prim.Native.Nat.{ℕ}
-use mathlib.Core.List.{List, [], _∷_, _++_}
+use Rattle.laws.specs.Words.{ℕ, List, [], _∷_, _++_}
 use Rattle.jobs.specs.declared.job.Job.{Job}
 use Rattle.machine.specs.declared.trace.Span.{Span}
 use Rattle.machine.specs.Traces.{row}

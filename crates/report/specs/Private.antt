@@ -3,9 +3,7 @@
 --   entryText     the row of entry n
 --   entriesText   the rows of the first n entries
 -- Assumes nothing.
-use Prim.Native.Nat.{ℕ, zero, suc, _+_, _*_}
-use mathlib.Core.List.{List, [], _∷_, _++_}
-use lib.ListN.{getD}
+use Rattle.laws.specs.Words.{ℕ, zero, suc, _+_, _*_, List, [], _∷_, _++_, getD}
 use Rattle.report.specs.Columns.{columnsText}
 use Rattle.report.specs.Refusals.{lineEnd}
 

@@ -4,9 +4,7 @@
 --   printLength   how many bytes of a buffer a program prints: the text in it, or the line of a refusal
 --   printLeft     the buffer that it prints them from
 -- Assumes nothing.
-use Prim.Native.Nat.{ℕ}
-use mathlib.Core.List.{List, _++_}
-use Rattle.laws.specs.Text.{ascii}
+use Rattle.laws.specs.Words.{ℕ, List, _++_, ascii}
 use Rattle.decimal.specs.Digits.{decimal}
 use Rattle.decimal.specs.Writing.{written, writtenLength}
 use Rattle.jobs.specs.declared.refusal.Refusal.{Refusal}

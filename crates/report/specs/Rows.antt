@@ -3,10 +3,7 @@
 --   boundsRow    a row of the bounds text: chain, job, the three bounds and the slack
 --   boundsRows   the rows of the first n jobs
 -- Assumes nothing.
-use Prim.Native.Nat.{ℕ, zero, suc}
-use mathlib.Core.List.{List, [], _∷_, _++_}
-use lib.IntN.{ℤ, pos}
-use lib.ListN.{getD}
+use Rattle.laws.specs.Words.{ℕ, zero, suc, List, [], _∷_, _++_, ℤ, pos, getD}
 use Rattle.decimal.specs.Signed.{signed}
 use Rattle.jobs.specs.declared.job.Job.{Job}
 use Rattle.jobs.specs.Accepted.{jobAt}

@@ -7,12 +7,7 @@
 --   boundsAnswer, boundsLeft   the same for the bounds text of a table
 --   traceAnswer, traceLeft     the same for the trace text of a table
 -- Assumes nothing.
-use Prim.Native.Nat.{ℕ}
-use mathlib.Core.Bool.{cond}
-use mathlib.Core.List.{List, _++_, map}
-use lib.Dec.{leb}
-use lib.ListN.{length}
-use Rattle.laws.specs.Text.{ascii}
+use Rattle.laws.specs.Words.{ℕ, cond, List, _++_, map, leb, length, ascii}
 use Rattle.decimal.specs.Writing.{written}
 use Rattle.jobs.specs.declared.job.Job.{Job}
 use Rattle.jobs.specs.declared.refusal.Refusal.the-variants.{ShortBuffer}

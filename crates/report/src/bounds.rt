@@ -1,7 +1,5 @@
 // The bounds text of a table.
-ghost use mathlib.Core.Path.{_≡_};
-ghost use mathlib.Core.List.{_++_};
-ghost use Prim.Native.Nat.{_≤_};
+ghost use Rattle.laws.specs.Words.{_≡_, _++_, _≤_};
 ghost use Rattle.decimal.specs.Writing.{written as Decimal·written};
 ghost use Rattle.jobs.specs.Limits.{maxJobs};
 ghost use Rattle.report.specs.Rows.{boundsRows};

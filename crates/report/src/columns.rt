@@ -1,8 +1,5 @@
 // Numbers with single commas between them, and bytes as they are, at a place of a buffer that has room for them.
-ghost use mathlib.Core.Path.{_≡_};
-ghost use Prim.Native.Nat.{_+_, _*_, _≤_};
-ghost use lib.ListN.{length};
-ghost use Rattle.laws.specs.Buffers.{patched};
+ghost use Rattle.laws.specs.Words.{_≡_, _+_, _*_, _≤_, length, patched};
 ghost use Rattle.report.specs.Columns.{mostColumns, columnText, columnsText};
 use decimal::count::digit_count;
 use decimal::unsigned::write_unsigned;

@@ -1,8 +1,5 @@
 // The rows of the trace text: four numbers each, one row after another in a slice.
-ghost use mathlib.Core.Path.{_≡_};
-ghost use Prim.Native.Nat.{_+_, _*_, _≤_};
-ghost use lib.ListN.{length};
-ghost use Rattle.laws.specs.Buffers.{patched};
+ghost use Rattle.laws.specs.Words.{_≡_, _+_, _*_, _≤_, length, patched};
 ghost use Rattle.jobs.specs.Limits.{maxJobs};
 ghost use Rattle.report.specs.Private.{entryText, entriesText};
 use crate::columns::columns_length;

@@ -1,8 +1,5 @@
 // A row of the bounds text.
-ghost use mathlib.Core.Path.{_≡_};
-ghost use Prim.Native.Nat.{_+_, _≤_};
-ghost use lib.ListN.{length};
-ghost use Rattle.laws.specs.Buffers.{patched};
+ghost use Rattle.laws.specs.Words.{_≡_, _+_, _≤_, length, patched};
 ghost use Rattle.report.specs.Rows.{slackText, boundsRow};
 use crate::columns::columns_length;
 use crate::columns::write_bytes;

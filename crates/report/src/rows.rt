@@ -1,8 +1,5 @@
 // The rows of the bounds text.
-ghost use mathlib.Core.Path.{_≡_};
-ghost use Prim.Native.Nat.{_+_, _*_, _≤_};
-ghost use lib.ListN.{length};
-ghost use Rattle.laws.specs.Buffers.{patched};
+ghost use Rattle.laws.specs.Words.{_≡_, _+_, _*_, _≤_, length, patched};
 ghost use Rattle.jobs.specs.Limits.{maxJobs};
 ghost use Rattle.report.specs.Rows.{boundsRows};
 use crate::row::row_length;

@@ -1,9 +1,5 @@
 // The trace text of a table.
-ghost use mathlib.Core.Path.{_≡_};
-ghost use mathlib.Core.List.{_++_};
-ghost use Prim.Native.Nat.{_*_, _≤_};
-ghost use lib.ListN.{length};
-ghost use Rattle.laws.specs.Places.{padded};
+ghost use Rattle.laws.specs.Words.{_≡_, _++_, _*_, _≤_, length, padded};
 ghost use Rattle.decimal.specs.Writing.{written as Decimal·written};
 ghost use Rattle.jobs.specs.Limits.{maxJobs};
 ghost use Rattle.jobs.specs.Jobs.{jobsOf};

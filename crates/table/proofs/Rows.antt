@@ -7,7 +7,7 @@ use native.Mathlib.Nat.{zero-add}
 use native.Mathlib.Numerals.{add-one}
 use lib.ListN.{length, take, drop, set, length-take, length-drop}
 use lib.Seq.{drop-drop, take-suc-set, length-take-le}
-use Rattle.laws.specs.Places.{padded}
+use Rattle.laws.specs.Words.{padded}
 use Rattle.laws.proofs.Lists.{length-padded, padded-snoc}
 use Rattle.decimal.specs.declared.field.Field.{Field}
 use Rattle.decimal.specs.declared.field.Field.the-variants.{Number, NoNumber}

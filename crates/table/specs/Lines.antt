@@ -6,11 +6,7 @@
 --   endOf        whether a line ends at the start of a text, and how many bytes its end takes
 --   startsWith   whether a text starts with these bytes
 -- Assumes nothing.
-use Prim.Native.Nat.{ℕ, zero, suc}
-use mathlib.Core.Bool.{Bool, true, false, cond, _&&_}
-use mathlib.Core.List.{List, [], _∷_}
-use lib.ListN.{length}
-use lib.Dec.{eqb}
+use Rattle.laws.specs.Words.{ℕ, zero, suc, Bool, true, false, cond, _&&_, List, [], _∷_, length, eqb}
 use Rattle.table.specs.declared.line.End.{End}
 use Rattle.table.specs.declared.line.End.the-variants.{Here, Elsewhere}
 

@@ -4,12 +4,7 @@
 --   rowOf         the values of a line of so many fields with single commas
 --   lineOf        the first line of a text as the reader of a line answers it
 -- Assumes nothing.
-use Prim.Native.Nat.{ℕ, zero, suc, _+_, _-_}
-use mathlib.Core.Bool.{cond}
-use mathlib.Core.List.{List, [], _∷_, _++_}
-use lib.ListN.{length, drop}
-use lib.Dec.{eqb}
-use Rattle.laws.specs.Places.{padded}
+use Rattle.laws.specs.Words.{ℕ, zero, suc, _+_, _-_, cond, List, [], _∷_, _++_, length, drop, eqb, padded}
 use Rattle.decimal.specs.declared.field.Field.{Field}
 use Rattle.decimal.specs.declared.field.Field.the-variants.{Number, NoNumber}
 use Rattle.decimal.specs.Fields.{fieldOf}

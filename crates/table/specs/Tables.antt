@@ -6,13 +6,7 @@
 --   readingOf     the answer to reading a text: its jobs, or the refusal with no jobs
 --   headerEnd     where the first line is the header, how many bytes it takes with its end
 -- Assumes nothing.
-use Prim.Native.Nat.{ℕ, _-_}
-use mathlib.Core.Bool.{Bool, true, false, cond}
-use mathlib.Core.List.{List, [], _∷_, _++_}
-use lib.ListN.{length, getD}
-use lib.Dec.{leb, eqb}
-use Rattle.laws.specs.Places.{lastOf}
-use Rattle.laws.specs.Text.{ascii}
+use Rattle.laws.specs.Words.{ℕ, _-_, Bool, true, false, cond, List, [], _∷_, _++_, length, getD, leb, eqb, lastOf, ascii}
 use Rattle.jobs.specs.declared.job.Job.{Job}
 use Rattle.jobs.specs.declared.refusal.Refusal.{Refusal}
 use Rattle.jobs.specs.declared.refusal.Refusal.the-variants.{TextTooLong, NotHeader, MalformedLine}

@@ -1,5 +1,5 @@
 // The first line of a table.
-ghost use mathlib.Core.Path.{_≡_};
+ghost use Rattle.laws.specs.Words.{_≡_};
 ghost use Rattle.table.specs.Lines.{startsWith};
 ghost use Rattle.table.specs.Tables.{headerEnd};
 use crate::line::End;

@@ -1,6 +1,5 @@
 // One line of a table after the first: fields with single commas.
-ghost use mathlib.Core.Path.{_≡_};
-ghost use Prim.Native.Nat.{_≤_};
+ghost use Rattle.laws.specs.Words.{_≡_, _≤_};
 ghost use Rattle.table.specs.Lines.{endOf};
 ghost use Rattle.table.specs.Rows.{maxColumns, columnOf, malformedLine, lineOf};
 use decimal::field::Field;

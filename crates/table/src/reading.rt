@@ -1,6 +1,5 @@
 // A whole job table, from its text to the set of its jobs.
-ghost use mathlib.Core.Path.{_≡_};
-ghost use mathlib.Core.List.{[]};
+ghost use Rattle.laws.specs.Words.{_≡_, []};
 ghost use Rattle.table.specs.Lines.{linesOf};
 ghost use Rattle.table.specs.Tables.{jobOf, refusedWith, recordsFrom, readingOf};
 use crate::header::read_header;

@@ -8,7 +8,7 @@ use mathlib.Core.Bool.{cond}
 use native.Mathlib.Omega.{arith}
 use lib.Dec.{eqb}
 use borrow.Author.Tests.{eqb-true, eq-eqb, ne-eqb}
-use Rattle.laws.specs.Places.{sumBelow}
+use Rattle.laws.specs.Words.{sumBelow}
 use Rattle.laws.proofs.Tests.{by-test, by-order, by-equal, by-last}
 use Rattle.laws.proofs.Sums.{sum-mono, sum-zero, sum-bump}
 use Rattle.laws.proofs.Greatest.{greatest-above}

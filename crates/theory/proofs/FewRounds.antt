@@ -9,7 +9,7 @@ use native.Mathlib.Nat.{zero-add, add-zero, add-suc}
 use lib.Dec.{ltb}
 use lib.Seq.{ext-getD}
 use borrow.Author.Tests.{ltb-true, lt-ltb, le-ltb}
-use Rattle.laws.specs.Places.{sumBelow}
+use Rattle.laws.specs.Words.{sumBelow}
 use Rattle.laws.proofs.Tests.{by-order, by-last, never-true, cond-le, cond-one}
 use Rattle.laws.proofs.Sums.{sum-eq, sum-two, sum-skip}
 use Rattle.theory.specs.Table.{Table}

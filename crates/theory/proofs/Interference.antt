@@ -8,7 +8,7 @@ use mathlib.Core.Bool.{cond}
 use native.Mathlib.Omega.{arith}
 use lib.Dec.{eqb}
 use borrow.Author.Tests.{eqb-false, ne-eqb}
-use Rattle.laws.specs.Places.{sumBelow}
+use Rattle.laws.specs.Words.{sumBelow}
 use Rattle.laws.proofs.Tests.{by-test, by-equal}
 use Rattle.laws.proofs.Sums.{sum-mono, sum-zero}
 use Rattle.theory.specs.Table.{Table}

@@ -8,7 +8,7 @@ use mathlib.Core.Path.{_≡_, refl, sym, ap, _∙_}
 use mathlib.Core.Logic.{_≢_}
 use native.Mathlib.Omega.{arith}
 use native.Mathlib.Nat.{add-zero, add-suc}
-use Rattle.laws.specs.Places.{sumBelow}
+use Rattle.laws.specs.Words.{sumBelow}
 use Rattle.laws.proofs.Tests.{by-order, by-equal, by-last}
 use Rattle.theory.specs.Table.{Table}
 use Rattle.theory.specs.Interference.{openBlock, largestBlock}

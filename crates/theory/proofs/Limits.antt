@@ -7,7 +7,7 @@ use native.Mathlib.Omega.{arith}
 use native.Mathlib.Nat.{add-zero, add-suc, add-comm, mul-add, add-mul, mul-comm, mul-assoc, mul-le-mul-right}
 use lib.Dec.{eqb}
 use borrow.Author.Tests.{eq-eqb, ne-eqb}
-use Rattle.laws.specs.Places.{sumBelow}
+use Rattle.laws.specs.Words.{sumBelow}
 use Rattle.laws.proofs.Tests.{by-order, by-equal, cond-one}
 use Rattle.laws.proofs.Sums.{sum-const}
 use Rattle.theory.specs.Table.{Table}

@@ -6,12 +6,7 @@
 --   cjaWith, cja     the largest such sum for each j, with any choice of jobs and with all
 --   boundLimit       what all bounds of an accepted set are below
 -- Assumes nothing.
-use Prim.Native.Nat.{ℕ, zero, suc, _+_, max, min}
-use mathlib.Core.Bool.{Bool, true, cond}
-use mathlib.Core.List.{List}
-use lib.Dec.{leb, eqb}
-use lib.ListN.{getD}
-use Rattle.laws.specs.Places.{tabulate}
+use Rattle.laws.specs.Words.{ℕ, zero, suc, _+_, max, min, Bool, true, cond, List, leb, eqb, getD, tabulate}
 use Rattle.theory.specs.Table.{Table, joined}
 use Rattle.theory.specs.Interference.{interference}
 

@@ -10,10 +10,7 @@
 --   NoLater         no bound rises where chains are taken off
 --   Unmoved         chains that are strictly less urgent than all others move none of their bounds
 -- Each is proved in proofs/Claims under the name that its comment gives. Assumes nothing.
-use Prim.Native.Nat.{ℕ, zero, suc, _≤_, _<_, max}
-use mathlib.Core.Path.{_≡_}
-use mathlib.Core.List.{List}
-use lib.ListN.{length}
+use Rattle.laws.specs.Words.{ℕ, zero, suc, _≤_, _<_, max, _≡_, List, length}
 use Rattle.jobs.specs.declared.job.Job.{Job}
 use Rattle.jobs.specs.declared.refusal.Check.the-variants.{Passed}
 use Rattle.jobs.specs.Checks.{checkOf}

@@ -4,10 +4,7 @@
 --   chains         the greatest chain number
 --   interference   for each other chain the largest block, added up
 -- The sums are of a weight by place: the most times, or 0 for a job that does not count. Assumes nothing.
-use Prim.Native.Nat.{ℕ, zero, suc, _+_, max}
-use mathlib.Core.Bool.{cond}
-use lib.Dec.{leb, eqb}
-use Rattle.laws.specs.Places.{sumBelow, greatest}
+use Rattle.laws.specs.Words.{ℕ, zero, suc, _+_, max, cond, leb, eqb, sumBelow, greatest}
 use Rattle.theory.specs.Table.{Table}
 
 -- Block, in the sense of document 01: a longest run of consecutive jobs of chain c whose urgencies are equal to or higher than the target's.

@@ -3,9 +3,7 @@
 --   Part         the job at place i of the part is the one at `place i` of the table, where its chain x is called `number x`
 --   LessUrgent   each job that is not of the part is strictly less urgent than each job of the part
 -- Assumes nothing.
-use Prim.Native.Nat.{ℕ, suc, _<_}
-use mathlib.Core.Path.{_≡_}
-use mathlib.Core.Logic.{_≢_}
+use Rattle.laws.specs.Words.{ℕ, suc, _<_, _≡_, _≢_}
 use Rattle.theory.specs.Table.{Table}
 
 -- No job of the part stands at this place.

@@ -7,10 +7,7 @@
 --   given               the table of a list of jobs, with the releases that are given
 --   tableOf             the same with effective releases: the table that all bounds and runs are about
 -- Assumes nothing.
-use Prim.Native.Nat.{ℕ, zero, suc, _+_, max}
-use mathlib.Core.Bool.{cond}
-use mathlib.Core.List.{List}
-use lib.ListN.{length}
+use Rattle.laws.specs.Words.{ℕ, zero, suc, _+_, max, cond, List, length}
 use Rattle.jobs.specs.declared.job.Job.{Job}
 use Rattle.jobs.specs.Accepted.{jobAt}
 use Rattle.theory.specs.Table.{Table, joined}

@@ -7,11 +7,7 @@
 --   roundLimit   the limit of demand 3 on the number of rounds
 --   itr          the answer: the bounds of the first round that equals the one before, and how many rounds there were
 -- Assumes nothing.
-use Prim.Native.Nat.{ℕ, zero, suc, _+_, _*_, _-_}
-use mathlib.Core.Bool.{Bool, true, false, _&&_}
-use mathlib.Core.List.{List}
-use lib.Dec.{ltb, eqb}
-use Rattle.laws.specs.Places.{tabulate}
+use Rattle.laws.specs.Words.{ℕ, zero, suc, _+_, _*_, _-_, Bool, true, false, _&&_, List, ltb, eqb, tabulate}
 use Rattle.theory.specs.Table.{Table}
 use Rattle.theory.specs.Bounds.{boundAt, ertRule, cjaWith}
 

@@ -8,12 +8,7 @@
 --   Run                   a legal run with running times and releases in range
 --   CompleteBy            complete no later than a bound
 -- Assumes nothing.
-use Prim.Native.Nat.{ℕ, zero, suc, _+_, _≤_, _<_}
-use mathlib.Core.Path.{_≡_}
-use mathlib.Core.Bool.{Bool, false, cond}
-use mathlib.Core.List.{List}
-use lib.Dec.{eqb}
-use lib.ListN.{length, getD}
+use Rattle.laws.specs.Words.{ℕ, zero, suc, _+_, _≤_, _<_, _≡_, Bool, false, cond, List, eqb, length, getD}
 use Rattle.theory.specs.Table.{Table}
 
 -- An entry is a job of the table or idle.

@@ -2,9 +2,7 @@
 --   Table    how many jobs there are and, by place, their chain, urgency, least and most time, earliest and latest release
 --   joined   whether the job at a place and the next one are of one chain
 -- Assumes nothing.
-use Prim.Native.Nat.{ℕ, suc}
-use mathlib.Core.Bool.{Bool}
-use lib.Dec.{eqb}
+use Rattle.laws.specs.Words.{ℕ, suc, Bool, eqb}
 
 pub record Table : Type 0 where
   pub count : ℕ

@@ -3,13 +3,7 @@
 --   slacks   the slack of each job of a list, by its ITR bound
 --   meets    the verdict by a list of bounds: whether each is at or before its job's deadline, among the first n
 -- Assumes nothing.
-use Prim.Native.Nat.{ℕ, zero, suc}
-use mathlib.Core.Bool.{Bool, true, _&&_}
-use mathlib.Core.List.{List}
-use lib.Dec.{leb}
-use lib.IntN.{ℤ, pos, _-ℤ_}
-use lib.ListN.{length}
-use Rattle.laws.specs.Places.{tabulate}
+use Rattle.laws.specs.Words.{ℕ, zero, suc, Bool, true, _&&_, List, leb, ℤ, pos, _-ℤ_, length, tabulate}
 use Rattle.jobs.specs.declared.job.Job.{Job}
 use Rattle.jobs.specs.Accepted.{jobAt}
 use Rattle.theory.specs.Releases.{tableOf}

@@ -1,7 +1,7 @@
 -- `accepted_ert` answers the ERT bounds. Assumes nothing.
 use mathlib.Core.Path.{ap, _∙_}
 use borrow.Author.Needs.{needs}
-use Rattle.laws.specs.Places.{padded}
+use Rattle.laws.specs.Words.{padded}
 use Rattle.jobs.specs.Limits.{maxJobs}
 use Rattle.analysis.proofs.Lent.{lends}
 use Rattle.analysis.proofs.ert.accepted_ert.Statement.{statement}

@@ -7,7 +7,7 @@ use Rattle.jobs.specs.Checks.{checkOf}
 use Prim.Native.Nat.{ℕ}
 use mathlib.Core.List.{List}
 use lib.IntN.{ℤ}
-use Rattle.laws.specs.Places.{padded}
+use Rattle.laws.specs.Words.{padded}
 use Rattle.jobs.specs.Limits.{maxJobs}
 use Rattle.theory.specs.Releases.{tableOf}
 use Rattle.theory.specs.Bounds.{ert, cja}

@@ -5,7 +5,7 @@ use mathlib.Core.List.{[], _++_}
 use native.Mathlib.Omega.{arith}
 use lib.ListN.{length, length-append}
 use borrow.Author.Needs.{needs}
-use Rattle.laws.specs.Text.{ascii}
+use Rattle.laws.specs.Words.{ascii}
 use Rattle.laws.proofs.Buffers.{Wrote, wrote-none, wrote-more, wrote-room, wrote-length}
 use Rattle.decimal.specs.Digits.{digitCount}
 use Rattle.decimal.proofs.Writing.{writes-short}
