@@ -11,7 +11,7 @@ use lib.ListN.{length, getD, set, replicate, length-set, length-replicate}
 use Rattle.laws.proofs.Filling.{filled-none, filled-next, filled-at}
 use Rattle.jobs.specs.declared.job.Job.{Job}
 use Rattle.jobs.specs.Limits.{maxJobs}
-use Rattle.jobs.specs.Accepted.{jobAt}
+use Rattle.jobs.specs.Jobs.{jobAt}
 use Rattle.theory.specs.Table.{Table}
 use Rattle.theory.specs.Releases.{effectiveEarliest, effectiveLatest, given, tableOf}
 use Rattle.theory.proofs.WellFormed.{Ordered, chain-le}

@@ -13,9 +13,8 @@ use Rattle.jobs.specs.declared.refusal.Check.the-variants.{Passed}
 use Rattle.jobs.specs.Limits.{maxJobs}
 use Rattle.jobs.specs.Jobs.{jobsOf}
 use Rattle.jobs.specs.Checks.{checkOf}
-use Rattle.jobs.specs.Accepted.{Accepted}
+use Rattle.jobs.proofs.Accepted.{Accepted, accepted}
 use Rattle.jobs.proofs.Sets.{length-jobs}
-use Rattle.jobs.proofs.Accepted.{accepted}
 use Rattle.theory.specs.Table.{Table}
 use Rattle.theory.specs.Releases.{tableOf}
 use Rattle.theory.specs.Bounds.{ert, cja}

@@ -17,7 +17,7 @@ use Rattle.jobs.specs.declared.job.Job.{Job}
 use Rattle.jobs.specs.declared.refusal.Check.the-variants.{Passed}
 use Rattle.jobs.specs.Limits.{maxJobs, maxDeadline}
 use Rattle.jobs.specs.Checks.{checkOf}
-use Rattle.jobs.specs.Accepted.{jobAt}
+use Rattle.jobs.specs.Jobs.{jobAt}
 use Rattle.jobs.proofs.Accepted.{accepted}
 use Rattle.theory.specs.Releases.{tableOf}
 use Rattle.theory.specs.Bounds.{boundAt, boundLimit}

@@ -3,7 +3,7 @@ use Prim.Native.Nat.{ℕ, zero, suc, _+_, _≤_, _<_}
 use mathlib.Core.Path.{_≡_, refl, sym}
 use mathlib.Core.Bool.{Bool, true, false, _&&_}
 use mathlib.Core.List.{List, [], _∷_, _++_}
-use mathlib.Core.Logic.{inl, inr}
+use mathlib.Core.Logic.{_⊎_, inl, inr}
 use native.Mathlib.Omega.{arith}
 use native.Mathlib.Numerals.{add-one}
 use lib.ListN.{length, take, drop}
@@ -18,11 +18,32 @@ use Rattle.jobs.specs.declared.refusal.Check.{Check}
 use Rattle.jobs.specs.declared.refusal.Check.the-variants.{Passed}
 use Rattle.jobs.specs.Limits.{maxJobs, maxChains, maxRelease, maxPriority, maxTime, maxDeadline}
 use Rattle.jobs.specs.Refusals.{unless}
-use Rattle.jobs.specs.Jobs.{noJob}
+use Rattle.jobs.specs.Jobs.{noJob, jobAt}
 use Rattle.jobs.specs.Records.{isNext, inLimits, recordCheck}
 use Rattle.jobs.specs.Checks.{recordsCheck, anyRecord, checkOf}
-use Rattle.jobs.specs.Accepted.{Follows, Limited, jobAt, Accepted}
 use Rattle.jobs.proofs.Checks.{then-first, then-second, nextCheck, last-take, Reached, reached-start, reached-next, reached-end, any-some, check-passed}
+
+-- The order of two neighbours: the chain goes on with its next job, or the next chain begins with its first.
+abbrev pub Follows : Job → Job → Type 0
+Follows i j = ((j .chain ≡ i .chain) × (j .job ≡ i .job + 1)) ⊎ ((j .chain ≡ i .chain + 1) × (j .job ≡ 1))
+
+-- The limits of one job.
+pub record Limited (j : Job) : Type 0 where
+  pub chains : j .chain ≤ maxChains
+  pub release : j .release ≤ maxRelease
+  pub priority : j .priority ≤ maxPriority
+  pub positive : 1 ≤ j .least
+  pub range : j .least ≤ j .most
+  pub time : j .most ≤ maxTime
+  pub deadline : j .deadline ≤ maxDeadline
+
+-- What holds of the jobs of an accepted set, place by place from 0.
+pub record Accepted (js : List Job) : Type 0 where
+  pub some : 0 < length js
+  pub few : length js ≤ maxJobs
+  pub first : (jobAt js 0 .chain ≡ 1) × (jobAt js 0 .job ≡ 1)
+  pub order : (i : ℕ) → suc i < length js → Follows (jobAt js i) (jobAt js (suc i))
+  pub limits : (i : ℕ) → i < length js → Limited (jobAt js i)
 
 -- ---- a record that passes
 unless-test : (b : Bool) (r : Refusal) (later : Check) → unless b r later ≡ Passed → b ≡ true

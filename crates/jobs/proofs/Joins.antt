@@ -16,10 +16,9 @@ use Rattle.jobs.specs.declared.refusal.Refusal.the-variants.{NoRecord}
 use Rattle.jobs.specs.declared.refusal.Check.{Check}
 use Rattle.jobs.specs.declared.refusal.Check.the-variants.{Passed, Refused}
 use Rattle.jobs.specs.Limits.{maxJobs, maxChains}
-use Rattle.jobs.specs.Jobs.{noJob, jobsOf, setOf}
+use Rattle.jobs.specs.Jobs.{noJob, jobsOf, setOf, jobAt}
 use Rattle.jobs.specs.Records.{recordCheck}
 use Rattle.jobs.specs.Checks.{recordsCheck}
-use Rattle.jobs.specs.Accepted.{jobAt}
 use Rattle.jobs.specs.Joins.{renumbered, numbered, withChain, joinCheck, joinOf}
 use Rattle.jobs.proofs.Sets.{job-at, grown, set-grown}
 use Rattle.jobs.proofs.Checks.{nextCheck, records-none, records-refused, records-passed, records-append, any-none, any-some, last-take}

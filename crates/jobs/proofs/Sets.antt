@@ -12,8 +12,7 @@ use Rattle.laws.proofs.Tabulate.{length-tabulate, getD-tabulate}
 use Rattle.jobs.specs.declared.job.Job.{Job}
 use Rattle.jobs.specs.declared.set.JobSet.{JobSet}
 use Rattle.jobs.specs.Limits.{maxJobs}
-use Rattle.jobs.specs.Jobs.{noJob, jobsOf, setOf}
-use Rattle.jobs.specs.Accepted.{jobAt}
+use Rattle.jobs.specs.Jobs.{noJob, jobsOf, setOf, jobAt}
 
 pub length-jobs : (s : JobSet) → length (jobsOf s) ≡ s .count
 unfolding jobsOf

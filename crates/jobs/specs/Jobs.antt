@@ -1,15 +1,19 @@
 -- Jobs and the sets that hold them. Document 01, "A job table", and "A form for each place".
 --   noJob     what stands in a set where there is no job
+--   jobAt     the job at a place, and no job beyond the last
 --   jobsOf    a set's records, as many as it counts
 --   setOf     the set that holds these jobs, and no job in its other places
 -- Assumes nothing.
-use Rattle.laws.specs.Words.{List, length, getD, tabulate, padded}
+use Rattle.laws.specs.Words.{ℕ, List, length, getD, tabulate, padded}
 use Rattle.jobs.specs.declared.job.Job.{Job}
 use Rattle.jobs.specs.declared.set.JobSet.{JobSet}
 use Rattle.jobs.specs.Limits.{maxJobs}
 
 abbrev pub noJob : Job
 noJob = record { chain = 0; job = 0; release = 0; priority = 0; least = 0; most = 0; deadline = 0 }
+
+abbrev pub jobAt : List Job → ℕ → Job
+jobAt js i = getD js i noJob
 
 -- A set handed by value may count more jobs than it has places; the records beyond those hold nothing.
 unfoldable pub jobsOf : JobSet → List Job

@@ -3,5 +3,4 @@ pub mod Refusals
 pub mod Jobs
 pub mod Records
 pub mod Checks
-pub mod Accepted
 pub mod Joins

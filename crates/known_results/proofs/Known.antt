@@ -8,12 +8,12 @@ use mathlib.Core.List.{List, [], _∷_, map}
 use native.Mathlib.Omega.{arith}
 use lib.IntN.{pos, negsuc}
 use lib.ListN.{length, getD}
-use Rattle.laws.specs.Words.{sumBelow, tabulate, greatest, lastOf}
+use Rattle.laws.specs.Words.{sumBelow, tabulate, greatest, lastOf, everyBelow}
 use Rattle.jobs.specs.declared.job.Job.{Job}
 use Rattle.jobs.specs.declared.refusal.Check.the-variants.{Passed}
 use Rattle.jobs.specs.Records.{isNext, inLimits, recordCheck}
 use Rattle.jobs.specs.Checks.{recordsCheck, checkOf}
-use Rattle.jobs.specs.Accepted.{jobAt}
+use Rattle.jobs.specs.Jobs.{jobAt}
 use Rattle.theory.specs.Table.{joined}
 use Rattle.theory.specs.Releases.{effectiveEarliest, effectiveLatest, tableOf}
 use Rattle.theory.specs.Interference.{openBlock, largestBlock, chains, interference}
@@ -22,7 +22,6 @@ use Rattle.theory.specs.Rounds.{itrStart, overlap, round, sameBounds, settle, r
 use Rattle.theory.specs.Verdicts.{slack, slacks, meets}
 use Rattle.theory.specs.Claims.{Demand3}
 use Rattle.theory.proofs.Claims.{demand-3}
-use Rattle.machine.specs.Every.{everyBelow}
 use Rattle.machine.specs.States.{lastTime}
 use Rattle.machine.specs.Times.{inRange, timesFit, machineCheck}
 use Rattle.machine.specs.Ready.{complete, predecessorComplete, ready}

@@ -9,7 +9,7 @@ use native.Mathlib.Nat.{add-assoc, add-zero}
 use lib.ListN.{length, take, drop, set, length-append, length-drop, take-append-drop}
 use lib.Seq.{set-split, take-at, drop-drop, drop-length, drop-append-add, length-take-le}
 use borrow.Rule.Slice.PartMut.{putMid, postOf, post-is}
-use Rattle.laws.specs.Buffers.{patched}
+use Rattle.laws.specs.Words.{patched}
 use Rattle.laws.proofs.Lists.{rest-is}
 
 -- a text at the start of the rest of a buffer, in the whole; `putMid` is how the borrow checker puts a lent part back

@@ -6,7 +6,7 @@ use mathlib.Core.Path.{_≡_, refl, sym, _∙_}
 use native.Mathlib.Omega.{arith}
 use lib.ListN.{length, length-append, length-map, length-drop, length-replicate, take, drop, getD, set, replicate}
 use lib.Seq.{take-all, take-append-seam, set-append-seam}
-use Rattle.laws.specs.Places.{lastOf, padded}
+use Rattle.laws.specs.Words.{lastOf, padded}
 
 -- the length of an array of structs, as the borrow checker has it
 pub mapped-length : (X Y : Type 0) (f : X → Y) (l : List X) (n : ℕ) → length (map f l) ≡ n → length l ≡ n

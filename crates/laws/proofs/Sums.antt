@@ -5,7 +5,7 @@ use mathlib.Core.Logic.{_≢_}
 use native.Mathlib.Omega.{arith}
 use lib.Dec.{eqb}
 use borrow.Author.Tests.{eqb-true, eqb-false}
-use Rattle.laws.specs.Places.{sumBelow}
+use Rattle.laws.specs.Words.{sumBelow}
 use Rattle.laws.proofs.Tests.{by-test, by-last}
 
 pub sum-mono : (n : ℕ) (f g : ℕ → ℕ) → ((i : ℕ) → i < n → f i ≤ g i) → sumBelow n f ≤ sumBelow n g

@@ -1,4 +1,1 @@
-pub mod Places
-pub mod Text
-pub mod Buffers
 pub mod Words

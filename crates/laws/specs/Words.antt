@@ -1,4 +1,6 @@
--- The words that definitions and promises are written in: those of the logic, and those of places and texts. Defines nothing.
+-- The words that definitions and promises are written in: those of the logic, passed on, and those of places and texts. Assumes nothing.
+use Prim.Native.Char.{code}
+use Prim.Native.String.{String, [] as nothing, _∷_ as _then_}
 pub use Prim.Native.Nat.{ℕ, zero, suc, _+_, _-_, _*_, _/_, _%_, _^_, _≤_, _<_, max, min}
 pub use mathlib.Core.Path.{_≡_}
 pub use mathlib.Core.Logic.{_⊎_, _≢_}
@@ -7,6 +9,41 @@ pub use mathlib.Core.List.{List, [], _∷_, _++_, map}
 pub use lib.Dec.{leb, ltb, eqb}
 pub use lib.ListN.{length, getD, set, take, drop, replicate}
 pub use lib.IntN.{ℤ, pos, negsuc, natAbs, negℤ, _-ℤ_}
-unfoldable pub use Rattle.laws.specs.Places.{sumBelow, tabulate, greatest, lastOf, padded}
-unfoldable pub use Rattle.laws.specs.Text.{ascii}
-unfoldable pub use Rattle.laws.specs.Buffers.{patched}
+
+-- f 0 + f 1 + … + f (n - 1).
+unfoldable pub sumBelow : ℕ → (ℕ → ℕ) → ℕ
+sumBelow zero f = 0
+sumBelow (suc n) f = sumBelow n f + f n
+
+-- The greatest of f 0, …, f (n - 1), and 0 where there is none.
+unfoldable pub greatest : ℕ → (ℕ → ℕ) → ℕ
+greatest zero f = 0
+greatest (suc n) f = max (greatest n f) (f n)
+
+-- Whether f holds at 0, 1, …, n - 1.
+unfoldable pub everyBelow : ℕ → (ℕ → Bool) → Bool
+everyBelow zero f = true
+everyBelow (suc n) f = everyBelow n f && f n
+
+-- The list f i, f (i + 1), …, of n elements.
+unfoldable pub tabulate : {A : Type 0} → ℕ → ℕ → (ℕ → A) → List A
+tabulate i zero f = []
+tabulate i (suc n) f = f i ∷ tabulate (suc i) n f
+
+-- The last element, and d where there is none.
+unfoldable pub lastOf : {A : Type 0} → A → List A → A
+lastOf d [] = d
+lastOf d (x ∷ xs) = lastOf x xs
+
+-- The list, and d in the places beyond it up to m of them.
+abbrev pub padded : {A : Type 0} → ℕ → A → List A → List A
+padded m d xs = xs ++ replicate (m - length xs) d
+
+-- The bytes of a quoted text, each the code of its character.
+abbrev pub ascii : String → List ℕ
+ascii nothing = []
+ascii (c then text) = code c ∷ ascii text
+
+-- The buffer with the text from the place `at` on, and all else as it was.
+unfoldable pub patched : {A : Type 0} → List A → ℕ → List A → List A
+patched buffer at text = take at buffer ++ text ++ drop (at + length text) buffer

@@ -10,7 +10,7 @@ use lib.Dec.{leb}
 use borrow.Author.Tests.{leb-true, leb-false, le-leb, lt-ltb, eq-eqb, ne-eqb}
 use Rattle.laws.proofs.Tests.{by-test, by-equal, same-test, and-left, and-right, and-both}
 use Rattle.jobs.specs.declared.job.Job.{Job}
-use Rattle.jobs.specs.Accepted.{jobAt}
+use Rattle.jobs.specs.Jobs.{jobAt}
 use Rattle.theory.specs.Table.{Table, joined}
 use Rattle.theory.specs.Releases.{effectiveEarliest, given, tableOf}
 use Rattle.theory.proofs.Rules.{first-after}

@@ -5,7 +5,7 @@ use mathlib.Core.Bool.{Bool, true, false, _&&_}
 use native.Mathlib.Omega.{arith}
 use native.Mathlib.Numerals.{add-one}
 use Rattle.laws.proofs.Tests.{by-test, by-last, both-ways, and-left, and-right, and-both}
-use Rattle.machine.specs.Every.{everyBelow}
+use Rattle.laws.specs.Words.{everyBelow}
 
 and-false : (b : Bool) → b && false ≡ false
 and-false true = refl

@@ -11,8 +11,8 @@ use borrow.Author.Tests.{ne-eqb}
 use Rattle.laws.proofs.Tests.{by-last}
 use Rattle.jobs.specs.declared.job.Job.{Job}
 use Rattle.jobs.specs.Limits.{maxJobs, maxRelease, maxTime}
-use Rattle.jobs.specs.Jobs.{noJob}
-use Rattle.jobs.specs.Accepted.{Accepted, jobAt}
+use Rattle.jobs.specs.Jobs.{noJob, jobAt}
+use Rattle.jobs.proofs.Accepted.{Accepted}
 use Rattle.theory.specs.Table.{joined}
 use Rattle.theory.specs.Releases.{effectiveEarliest, tableOf}
 use Rattle.theory.proofs.Releases.{earliest-latest}

@@ -9,7 +9,7 @@ use native.Mathlib.Numerals.{add-one}
 use lib.Dec.{leb, eqb}
 use lib.ListN.{length, getD}
 use borrow.Author.Tests.{leb-true, le-leb, lt-leb, eqb-true, eq-eqb, ne-eqb}
-use Rattle.laws.specs.Words.{sumBelow}
+use Rattle.laws.specs.Words.{sumBelow, everyBelow}
 use Rattle.laws.proofs.Tests.{and-left, and-right, and-both}
 use Rattle.laws.proofs.Sums.{sum-const}
 use Rattle.jobs.specs.declared.job.Job.{Job}
@@ -19,14 +19,12 @@ use Rattle.jobs.specs.declared.refusal.Check.{Check}
 use Rattle.jobs.specs.declared.refusal.Check.the-variants.{Passed, Refused}
 use Rattle.jobs.specs.Limits.{maxTime}
 use Rattle.jobs.specs.Refusals.{unless, andThen}
-use Rattle.jobs.specs.Jobs.{noJob, jobsOf}
+use Rattle.jobs.specs.Jobs.{noJob, jobsOf, jobAt}
 use Rattle.jobs.specs.Checks.{checkOf}
-use Rattle.jobs.specs.Accepted.{Accepted, jobAt}
+use Rattle.jobs.proofs.Accepted.{Accepted, accepted}
 use Rattle.jobs.proofs.Sets.{length-jobs, job-at}
-use Rattle.jobs.proofs.Accepted.{accepted}
 use Rattle.theory.specs.Releases.{tableOf}
 use Rattle.theory.specs.Runs.{timeAt, Times}
-use Rattle.machine.specs.Every.{everyBelow}
 use Rattle.machine.specs.Times.{inRange, timesFit, machineCheck}
 use Rattle.machine.specs.Private.{Brief, sumOf}
 use Rattle.machine.proofs.Every.{every-at, every-not}

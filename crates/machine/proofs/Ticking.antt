@@ -15,8 +15,7 @@ use Rattle.jobs.specs.declared.refusal.Refusal.the-variants.{ImpossibleState}
 use Rattle.jobs.specs.declared.refusal.Check.the-variants.{Passed, Refused}
 use Rattle.jobs.specs.Refusals.{unless}
 use Rattle.jobs.specs.Limits.{maxJobs}
-use Rattle.jobs.specs.Jobs.{noJob, jobsOf}
-use Rattle.jobs.specs.Accepted.{jobAt}
+use Rattle.jobs.specs.Jobs.{noJob, jobsOf, jobAt}
 use Rattle.jobs.proofs.Sets.{length-jobs, job-at}
 use Rattle.theory.specs.Table.{Table}
 use Rattle.theory.specs.Releases.{tableOf}
@@ -25,7 +24,7 @@ use Rattle.machine.specs.declared.state.State.{State}
 use Rattle.machine.specs.declared.columns.Columns.{Columns}
 use Rattle.machine.specs.declared.pick.Best.{Best}
 use Rattle.machine.specs.declared.step.Ticked.the-variants.{Ran, Idle, Finished, Refused as RefusedTick}
-use Rattle.machine.specs.Every.{everyBelow}
+use Rattle.laws.specs.Words.{everyBelow}
 use Rattle.machine.specs.States.{lastTime}
 use Rattle.machine.specs.Times.{machineCheck}
 use Rattle.machine.specs.Ready.{complete, ready}

@@ -1,4 +1,3 @@
-pub mod Every
 pub mod States
 pub mod Times
 pub mod Ready

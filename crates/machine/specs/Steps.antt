@@ -4,7 +4,7 @@
 --   stepCheck    4 to 7, then 8, then 11
 --   stepOf       the answer and the state after a tick, or the refusal and the state as it was
 -- Assumes nothing.
-use Rattle.laws.specs.Words.{ℕ, Bool, _&&_, _||_, List, leb, ltb, eqb, getD}
+use Rattle.laws.specs.Words.{ℕ, Bool, _&&_, _||_, List, leb, ltb, eqb, getD, everyBelow}
 use Rattle.jobs.specs.declared.job.Job.{Job}
 use Rattle.jobs.specs.declared.refusal.Refusal.the-variants.{ImpossibleState}
 use Rattle.jobs.specs.declared.refusal.Check.{Check}
@@ -15,7 +15,6 @@ use Rattle.theory.specs.Releases.{tableOf}
 use Rattle.machine.specs.declared.state.State.{State}
 use Rattle.machine.specs.declared.step.Ticked.the-variants.{Refused as RefusedTick}
 use Rattle.machine.specs.declared.step.Stepped.{Stepped}
-use Rattle.machine.specs.Every.{everyBelow}
 use Rattle.machine.specs.States.{lastTime}
 use Rattle.machine.specs.Times.{machineCheck}
 use Rattle.machine.specs.Ready.{predecessorComplete}

@@ -5,9 +5,9 @@
 --   ranAs         what a tick with this entry answers
 --   tickOf        the answer and the state after one tick
 -- Assumes nothing.
-use Rattle.laws.specs.Words.{ℕ, _+_, Bool, cond, List, getD, set}
+use Rattle.laws.specs.Words.{ℕ, _+_, Bool, cond, List, getD, set, everyBelow}
 use Rattle.jobs.specs.declared.job.Job.{Job}
-use Rattle.jobs.specs.Accepted.{jobAt}
+use Rattle.jobs.specs.Jobs.{jobAt}
 use Rattle.theory.specs.Table.{Table}
 use Rattle.theory.specs.Releases.{tableOf}
 use Rattle.theory.specs.Runs.{Entry, idle, runs}
@@ -15,7 +15,6 @@ use Rattle.machine.specs.declared.state.State.{State}
 use Rattle.machine.specs.declared.step.Ticked.{Ticked}
 use Rattle.machine.specs.declared.step.Ticked.the-variants.{Ran, Idle, Finished}
 use Rattle.machine.specs.declared.step.Stepped.{Stepped}
-use Rattle.machine.specs.Every.{everyBelow}
 use Rattle.machine.specs.Ready.{complete}
 use Rattle.machine.specs.Pick.{pick}
 

@@ -3,7 +3,7 @@
 --   timesFit       the running times are one for each job, each in its range
 --   machineCheck   what the machine's operations check of a set and its running times: 4 to 7, then 8
 -- Assumes nothing.
-use Rattle.laws.specs.Words.{ℕ, Bool, _&&_, List, leb, eqb, length, getD}
+use Rattle.laws.specs.Words.{ℕ, Bool, _&&_, List, leb, eqb, length, getD, everyBelow}
 use Rattle.jobs.specs.declared.job.Job.{Job}
 use Rattle.jobs.specs.declared.refusal.Refusal.the-variants.{RunningTimes}
 use Rattle.jobs.specs.declared.refusal.Check.{Check}
@@ -12,7 +12,6 @@ use Rattle.jobs.specs.Refusals.{unless, andThen}
 use Rattle.jobs.specs.Checks.{checkOf}
 use Rattle.theory.specs.Table.{Table}
 use Rattle.theory.specs.Releases.{tableOf}
-use Rattle.machine.specs.Every.{everyBelow}
 
 -- From its least to its most.
 unfoldable pub inRange : Table → List ℕ → ℕ → Bool

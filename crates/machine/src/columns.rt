@@ -1,7 +1,7 @@
 // The figures of a set that the scan reads at every tick, as columns; effective releases are worked out once.
 ghost use Rattle.laws.specs.Words.{_≡_, _+_, _<_, _^_};
 ghost use Rattle.jobs.specs.Jobs.{jobsOf};
-ghost use Rattle.jobs.specs.Accepted.{Accepted};
+ghost use Rattle.jobs.proofs.Accepted.{Accepted};
 ghost use Rattle.theory.specs.Releases.{tableOf};
 ghost use Rattle.machine.specs.Private.{Shown, carried};
 use jobs::job::Job;

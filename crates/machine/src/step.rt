@@ -1,9 +1,8 @@
 // One tick on a state, by value, with its checks.
-ghost use Rattle.laws.specs.Words.{_≡_, [], _<_, _≤_, length};
+ghost use Rattle.laws.specs.Words.{_≡_, [], _<_, _≤_, length, everyBelow};
 ghost use Rattle.jobs.specs.Limits.{maxJobs};
 ghost use Rattle.jobs.specs.Jobs.{jobsOf};
 ghost use Rattle.theory.specs.Releases.{tableOf};
-ghost use Rattle.machine.specs.Every.{everyBelow};
 ghost use Rattle.machine.specs.Steps.{possible, stateCheck, stepOf};
 ghost use Rattle.machine.specs.Ticks.{tickOf};
 ghost use Rattle.machine.specs.Private.{seen, stateOf, Prepared};

@@ -8,20 +8,18 @@ use lib.Dec.{eqb}
 use lib.ListN.{length, take, getD, length-map}
 use lib.Seq.{take-at}
 use borrow.Author.Tests.{eq-eqb, le-leb}
-use Rattle.laws.specs.Words.{tabulate, padded}
+use Rattle.laws.specs.Words.{tabulate, padded, everyBelow}
 use Rattle.laws.proofs.Lists.{length-padded}
 use Rattle.laws.proofs.Tests.{and-both}
 use Rattle.jobs.specs.declared.job.Job.{Job}
 use Rattle.jobs.specs.declared.set.JobSet.{JobSet}
 use Rattle.jobs.specs.declared.refusal.Check.the-variants.{Passed}
 use Rattle.jobs.specs.Limits.{maxJobs}
-use Rattle.jobs.specs.Jobs.{noJob, jobsOf}
+use Rattle.jobs.specs.Jobs.{noJob, jobsOf, jobAt}
 use Rattle.jobs.specs.Checks.{checkOf}
-use Rattle.jobs.specs.Accepted.{jobAt}
 use Rattle.jobs.proofs.Sets.{length-jobs}
 use Rattle.jobs.proofs.Accepted.{accepted}
 use Rattle.theory.specs.Releases.{tableOf}
-use Rattle.machine.specs.Every.{everyBelow}
 use Rattle.machine.specs.Times.{inRange, timesFit, machineCheck}
 use Rattle.machine.proofs.RunningTimes.{times-passed}
 use Rattle.report.specs.Texts.{mostTimes}

@@ -7,7 +7,7 @@ use lib.IntN.{ℤ, pos}
 use lib.ListN.{getD}
 use Rattle.laws.proofs.Pieces.{Made, PiecesWritten}
 use Rattle.jobs.specs.declared.job.Job.{Job}
-use Rattle.jobs.specs.Accepted.{jobAt}
+use Rattle.jobs.specs.Jobs.{jobAt}
 use Rattle.report.specs.Rows.{boundsRow, boundsRows}
 
 -- the row at a place

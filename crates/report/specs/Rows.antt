@@ -6,7 +6,7 @@
 use Rattle.laws.specs.Words.{ℕ, zero, suc, List, [], _∷_, _++_, ℤ, pos, getD}
 use Rattle.decimal.specs.Signed.{signed}
 use Rattle.jobs.specs.declared.job.Job.{Job}
-use Rattle.jobs.specs.Accepted.{jobAt}
+use Rattle.jobs.specs.Jobs.{jobAt}
 use Rattle.report.specs.Columns.{columnsText}
 use Rattle.report.specs.Refusals.{lineEnd}
 

@@ -6,7 +6,8 @@ use native.Mathlib.Omega.{arith}
 use lib.ListN.{length}
 use Rattle.jobs.specs.declared.job.Job.{Job}
 use Rattle.jobs.specs.Limits.{maxJobs, maxRelease, maxTime}
-use Rattle.jobs.specs.Accepted.{Follows, jobAt, Accepted}
+use Rattle.jobs.proofs.Accepted.{Follows, Accepted}
+use Rattle.jobs.specs.Jobs.{jobAt}
 use Rattle.theory.specs.Releases.{given, tableOf}
 use Rattle.theory.proofs.WellFormed.{Ordered, WellFormed}
 use Rattle.theory.proofs.Releases.{release-range, release-limit, earliest-latest}

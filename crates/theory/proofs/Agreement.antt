@@ -11,7 +11,7 @@ use native.Mathlib.Omega.{arith}
 use lib.ListN.{length, take, length-take}
 use lib.Seq.{ext-getD, getD-take}
 use Rattle.jobs.specs.declared.job.Job.{Job}
-use Rattle.jobs.specs.Accepted.{jobAt}
+use Rattle.jobs.specs.Jobs.{jobAt}
 use Rattle.theory.specs.Table.{Table}
 use Rattle.theory.specs.Releases.{effective, urgencyOf, latestOf, given, tableOf}
 use Rattle.theory.specs.Bounds.{boundAt, ert, always, cja}

@@ -16,7 +16,7 @@ use lib.ListN.{length}
 use borrow.Author.Tests.{lt-ltb, le-ltb, eqb-false, ne-eqb}
 use Rattle.laws.proofs.Tests.{by-test, by-order, by-equal}
 use Rattle.jobs.specs.declared.job.Job.{Job}
-use Rattle.jobs.specs.Accepted.{jobAt}
+use Rattle.jobs.specs.Jobs.{jobAt}
 use Rattle.jobs.specs.Joins.{renumbered}
 use Rattle.theory.specs.Releases.{urgencyOf, latestOf, given, tableOf}
 use Rattle.theory.specs.Parts.{Part, LessUrgent}

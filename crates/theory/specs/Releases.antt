@@ -9,7 +9,7 @@
 -- Assumes nothing.
 use Rattle.laws.specs.Words.{ℕ, zero, suc, _+_, max, cond, List, length}
 use Rattle.jobs.specs.declared.job.Job.{Job}
-use Rattle.jobs.specs.Accepted.{jobAt}
+use Rattle.jobs.specs.Jobs.{jobAt}
 use Rattle.theory.specs.Table.{Table, joined}
 
 -- A chain's first job has its given release; a later job has the larger of its given release and its predecessor's effective release plus its

@@ -5,7 +5,7 @@
 -- Assumes nothing.
 use Rattle.laws.specs.Words.{ℕ, zero, suc, Bool, true, _&&_, List, leb, ℤ, pos, _-ℤ_, length, tabulate}
 use Rattle.jobs.specs.declared.job.Job.{Job}
-use Rattle.jobs.specs.Accepted.{jobAt}
+use Rattle.jobs.specs.Jobs.{jobAt}
 use Rattle.theory.specs.Releases.{tableOf}
 use Rattle.theory.specs.Bounds.{boundAt}
 use Rattle.theory.specs.Rounds.{itr}

@@ -3,8 +3,7 @@ use mathlib.Core.Path.{sym, ap, _∙_}
 use native.Mathlib.Omega.{arith}
 use Prim.Native.Nat.{ℕ, _-_}
 use borrow.Author.Needs.{needs}
-use Rattle.jobs.specs.Jobs.{jobsOf}
-use Rattle.jobs.specs.Accepted.{jobAt}
+use Rattle.jobs.specs.Jobs.{jobsOf, jobAt}
 use Rattle.jobs.proofs.Sets.{length-jobs, job-at}
 use Rattle.jobs.proofs.Joins.{last-none, last-at}
 use Rattle.jobs.proofs.join.last_of.Statement.{statement}

@@ -5,7 +5,7 @@ use mathlib.Core.Bool.{true}
 use native.Mathlib.Omega.{arith}
 use borrow.Author.Tests.{not-true, not-false}
 use borrow.Author.Needs.{needs}
-use Rattle.machine.specs.Every.{everyBelow}
+use Rattle.laws.specs.Words.{everyBelow}
 use Rattle.machine.specs.Ready.{complete}
 use Rattle.machine.proofs.Every.{every-none, every-next, every-not}
 use Rattle.machine.proofs.ready.are_complete.Statement.{statement}

@@ -6,7 +6,7 @@ use mathlib.Core.List.{[]}
 use native.Mathlib.Omega.{arith}
 use borrow.Author.Tests.{not-true, not-false}
 use borrow.Author.Needs.{needs}
-use Rattle.machine.specs.Every.{everyBelow}
+use Rattle.laws.specs.Words.{everyBelow}
 use Rattle.machine.specs.Steps.{possible}
 use Rattle.machine.specs.Private.{seen, stateOf}
 use Rattle.machine.proofs.Every.{every-none, every-next, every-not}

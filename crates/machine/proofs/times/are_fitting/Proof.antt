@@ -6,7 +6,7 @@ use native.Mathlib.Omega.{arith}
 use borrow.Author.Needs.{needs}
 use Rattle.jobs.specs.Jobs.{jobsOf}
 use Rattle.theory.specs.Releases.{tableOf}
-use Rattle.machine.specs.Every.{everyBelow}
+use Rattle.laws.specs.Words.{everyBelow}
 use Rattle.machine.specs.Times.{inRange}
 use Rattle.machine.proofs.Every.{every-none, every-next}
 use Rattle.machine.proofs.RunningTimes.{fit-count, fit-below, fit-above, fit-here, fit-all}
