@@ -3,13 +3,14 @@ use libc::STDIN_FILENO;
 use libc::STDOUT_FILENO;
 use report::bounds::bounds_text;
 use report::refused::print_length;
+use report::written::MAX_BYTES;
 use table::reading::MAX_TEXT;
 
 // A buffer of one byte more than the limit tells a text that is too long.
 fn main() {
     let mut text = [0u8; MAX_TEXT + 1];
     let length = io::read_full(STDIN_FILENO, &mut text);
-    let mut out = [0u8; 8448];
+    let mut out = [0u8; MAX_BYTES];
     let answer = bounds_text(&text[..length], &mut out);
     let printed = io::count(print_length(answer, &mut out) as isize, &out);
     io::write_all(STDOUT_FILENO, &out[..printed]);

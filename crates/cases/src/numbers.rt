@@ -1,17 +1,23 @@
 // Lines of numbers kept as files: a comma between two numbers, a line feed after each line.
+use jobs::set::JobSet;
 
 // The numbers of a text; the first line holds the first few of them.
 pub(crate) struct Numbers {
-    pub values: [u64; 160],
+    pub values: [u64; Numbers::MAX],
     pub count: usize,
     pub first: usize,
+}
+
+impl Numbers {
+    // The running times of a set, then a time and the work of each job.
+    const MAX: usize = 2 * JobSet::MAX_JOBS + 1;
 }
 
 // A digit goes on the number that has begun.
 fn with_digit(numbers: Numbers, digit: u64) -> Numbers {
     let at = numbers.count;
     let mut next = numbers;
-    if at < 160 {
+    if at < Numbers::MAX {
         let value = numbers.values[at];
         if value <= 1000000000000 {
             if digit <= 9 {
@@ -25,7 +31,7 @@ fn with_digit(numbers: Numbers, digit: u64) -> Numbers {
 // A comma and a line feed end a number, the first line feed the first line.
 fn with_end(numbers: Numbers, byte: u8) -> Numbers {
     let mut next = numbers;
-    if numbers.count < 160 {
+    if numbers.count < Numbers::MAX {
         next.count = numbers.count + 1;
     }
     if byte == b'\n' {
@@ -45,7 +51,7 @@ fn with_byte(numbers: Numbers, byte: u8) -> Numbers {
 
 fn numbers_in(text: &[u8]) -> Numbers {
     let mut numbers = Numbers {
-        values: [0; 160],
+        values: [0; Numbers::MAX],
         count: 0,
         first: 0,
     };

@@ -31,7 +31,7 @@ fn times_of(numbers: Numbers) -> [u64; JobSet::MAX_JOBS]
 fn state_of(numbers: Numbers) -> State {
     let mut state = State::start();
     let first = numbers.first;
-    if first < 64 {
+    if first <= JobSet::MAX_JOBS {
         state.time = numbers.values[first];
         let mut i: usize = 0;
         while i < JobSet::MAX_JOBS {

@@ -7,6 +7,7 @@ use mir.Syntax.{w64}
 use mir.Facts.{toZ-pos, toZ-ofZ}
 use borrow.Author.Needs.{needs}
 use Rattle.jobs.specs.declared.refusal.Check.the-variants.{Passed}
+use Rattle.jobs.specs.Limits.{maxJobs}
 use Rattle.jobs.specs.Jobs.{jobsOf}
 use Rattle.jobs.specs.Checks.{checkOf}
 use Rattle.table.specs.declared.reading.Reading.{Reading}
@@ -36,7 +37,7 @@ is-rounds c =
     let e = c .itr .ensures ∙ ap (λ (r : Reading). itrOf (r .set)) (c .before .before .before .read .ensures) in
     ap (λ (a : Itr). a .rounds) (rw (accepts (c .before)) at e)
 
-within : (c : tie.After-itr) → c .itr .result .rounds ≤ 64
+within : (c : tie.After-itr) → c .itr .result .rounds ≤ maxJobs
 within c =
     let js = jobsOf (readingOf (c .before .before .before .before .before .args .text .now) .set) in
     omega (arith, is-rounds c, few-rounds js (accepts (c .before)), accepted js (accepts (c .before)) .few)

@@ -1,10 +1,11 @@
 -- `trace_set` leaves the trace text of an accepted set. Assumes nothing.
-use Prim.Native.Nat.{ℕ, _≤_}
+use Prim.Native.Nat.{ℕ, _*_, _≤_}
 use mathlib.Core.Path.{sym}
 use native.Mathlib.Omega.{arith}
 use lib.ListN.{length, replicate, length-replicate}
 use lib.Seq.{length-take-le}
 use borrow.Author.Needs.{needs}
+use Rattle.jobs.specs.Limits.{maxJobs}
 use Rattle.jobs.specs.Jobs.{jobsOf}
 use Rattle.jobs.proofs.Sets.{length-jobs}
 use Rattle.jobs.proofs.Accepted.{accepted}
@@ -18,8 +19,8 @@ room c = most-room (c .before .before .args .set) (c .most-times .result) (c .be
 
 ran : (c : tie.After-trace) → Ran (jobsOf (c .before .before .before .before .before .args .set)) (c .trace .result) (c .trace .last .1 .1 .0)
 ran c =
-    most-ran (jobsOf (c .before .before .before .before .before .args .set)) (c .before .before .before .before .before .pre) _ (most-lent (c .before .before .before .before .before .args .set) (c .before .before .before .most-times .result) (c .before .before .before .most-times .ensures)) (replicate 512 0)
-    (omega (arith, length-replicate {A = ℕ} 512 0)) (c .trace .ensures)
+    most-ran (jobsOf (c .before .before .before .before .before .args .set)) (c .before .before .before .before .before .pre) _ (most-lent (c .before .before .before .before .before .args .set) (c .before .before .before .most-times .result) (c .before .before .before .most-times .ensures)) (replicate (8 * maxJobs) 0)
+    (omega (arith, length-replicate {A = ℕ} (8 * maxJobs) 0)) (c .trace .ensures)
 
 most-times-requires : tie.Need-most-times-requires
 most-times-requires c κs = omega (arith, length-jobs (c .before .args .set), accepted (jobsOf (c .before .args .set)) (c .before .pre) .few)
