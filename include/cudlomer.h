@@ -6,8 +6,8 @@
  *
  * Every function takes a text of any content and length, and never reads or writes outside the two ranges that it is handed. A pointer may be
  * anything where its length is 0. The two ranges must not overlap. No function keeps a pointer, allocates memory or has state, so that any
- * number of threads may call them. Of the C library they use memcpy and memset. They take less than 32 KB of stack, which is measured, not
- * proved. A buffer of 4,096 bytes is enough for every text that they write, which is reckoned from the limits, not proved.
+ * number of threads may call them. Of the C library they use memcpy and memset. A buffer of 4,096 bytes is enough for
+ * every text that they write. They take less than 32 KB of stack, which is measured, not proved.
  *
  * An answer below 0 is the number of a refusal, negated; a refused call has written nothing:
  *    -1  the text is longer than 4,096 bytes
@@ -32,13 +32,13 @@ extern "C" {
 
 /* Writes `chain,job,ert,cja,itr,slack` and a row for each job, with CR LF, into the buffer: the latest moment at which the job can be complete,
  * by the algorithms ERT, CJA and ITR, and its deadline less the ITR bound. Answers how many bytes were written; what the buffer holds after
- * them stays. The text has at most 29 bytes and 64 rows of at most 52, which makes 3,357. */
+ * them stays. */
 int64_t cudlomer_bounds(const uint8_t *text, size_t text_length, uint8_t *out, size_t out_length);
 
 /* Writes `chain,job,from,to` and a row for each longest run of one job, the earliest first, with CR LF, into the buffer: when the machine runs
- * the jobs from time 0, each for its most time. Answers how many bytes were written; what the buffer holds after them stays. The text has at
- * most 19 bytes and 128 rows of at most 29, which makes 3,731. While a job runs the machine goes from tick to tick, at some 2 nanoseconds for
- * each tick and job of the table where this was measured; it passes over idle time. */
+ * the jobs from time 0, each for its most time. Answers how many bytes were written; what the buffer holds after them stays. While a job runs
+ * the machine goes from tick to tick, at some 2 nanoseconds for each tick and job of the table where this was measured; it passes over idle
+ * time. */
 int64_t cudlomer_trace(const uint8_t *text, size_t text_length, uint8_t *out, size_t out_length);
 
 /* Answers 1 where each job's bound is at or before its deadline, and 0 where one is not; the algorithm is 1 ERT, 2 CJA or 3 ITR. */

@@ -13,3 +13,4 @@ pub mod Forward
 pub mod Legality
 pub mod Reading
 pub mod Claims
+pub mod SpanTimes

@@ -9,3 +9,4 @@ pub mod EntryTexts
 pub mod TextAnswers
 pub mod MostTimes
 pub mod TraceTexts
+pub mod Fits

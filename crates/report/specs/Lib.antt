@@ -4,3 +4,4 @@ pub mod Rows
 pub mod Entries
 pub mod Private
 pub mod Texts
+pub mod Claims

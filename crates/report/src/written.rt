@@ -2,7 +2,7 @@
 use jobs::refusal::Refusal;
 use jobs::set::JobSet;
 
-// More bytes than any text takes: a row of bounds has at most 52, and the two entries of a job in a trace at most 58.
+// As many bytes as any text takes, by the theorem `texts-fit`.
 pub const MAX_BYTES: usize = 64 * JobSet::MAX_JOBS;
 
 pub enum Written {
