@@ -11,8 +11,7 @@ use lib.ListN.{length, getD}
 use Rattle.laws.specs.Words.{sumBelow, tabulate, greatest, lastOf, everyBelow}
 use Rattle.jobs.specs.declared.job.Job.{Job}
 use Rattle.jobs.specs.declared.refusal.Check.the-variants.{Passed}
-use Rattle.jobs.specs.Records.{isNext, inLimits, recordCheck}
-use Rattle.jobs.specs.Checks.{recordsCheck, checkOf}
+use Rattle.jobs.specs.Checks.{isNext, inLimits, recordCheck, recordsCheck, checkOf}
 use Rattle.jobs.specs.Jobs.{jobAt}
 use Rattle.theory.specs.Table.{joined}
 use Rattle.theory.specs.Releases.{effectiveEarliest, effectiveLatest, tableOf}

@@ -1,6 +1,4 @@
-pub mod Columns
-pub mod Refusals
 pub mod Rows
-pub mod Entries
+pub mod Refusals
 pub mod Private
 pub mod Texts
