@@ -1,10 +1,4 @@
--- Answers as C sees them. Document 01, "Programs and the C side".
---   refusalCode      the number of the refusal, negated
---   writtenCode      the bytes written, or that
---   verdictCode      1 for yes, 0 for no, or that
---   verdictOfTable   the verdict on a table's text; the refusals of reading come first
---   roundsOfTable    the rounds of ITR, or the refusal of reading
--- Assumes nothing.
+-- Answers as C sees them. Document 01, "Programs and the C side". Assumes nothing.
 use Rattle.laws.specs.Words.{ℕ, List, ℤ, pos, negℤ}
 use Rattle.jobs.specs.declared.refusal.Refusal.{Refusal}
 use Rattle.jobs.specs.declared.refusal.Check.{Check}
@@ -20,24 +14,30 @@ use Rattle.analysis.specs.Analysis.{verdictAfter, verdictBy}
 use Rattle.report.specs.declared.written.Written.{Written}
 use Rattle.report.specs.declared.written.Written.the-variants.{Bytes, Refused as Unwritten}
 
+-- The number of the refusal, negated.
 abbrev pub refusalCode : Refusal → ℤ
 refusalCode refusal = negℤ (pos (numberOf refusal))
 
+-- The bytes written, or that.
 abbrev pub writtenCode : Written → ℤ
 writtenCode (Bytes n) = pos n
 writtenCode (Unwritten refusal) = refusalCode refusal
 
+-- 1 for yes, 0 for no, or that.
 abbrev pub verdictCode : Verdict → ℤ
 verdictCode Yes = pos 1
 verdictCode No = pos 0
 verdictCode (Refused refusal) = refusalCode refusal
 
+-- The verdict on a table's text; the refusals of reading come first.
 unfoldable pub verdictOfTable : List ℕ → ℕ → Verdict
 verdictOfTable text algorithm = let reading = readingOf text in verdictAfter (reading .check) (verdictBy (jobsOf (reading .set)) algorithm)
 
+-- The rounds, where a check comes before.
 abbrev pub roundsAfter : Check → ℕ → ℤ
 roundsAfter Passed n = pos n
 roundsAfter (Stopped refusal) n = refusalCode refusal
 
+-- The rounds of ITR on a table's text, or the refusal of reading.
 unfoldable pub roundsOfTable : List ℕ → ℤ
 roundsOfTable text = let reading = readingOf text in roundsAfter (reading .check) (itr (tableOf (jobsOf (reading .set))) .rounds)

@@ -3,8 +3,7 @@ use mathlib.Core.List.{[], _∷_}
 use mathlib.Core.Path.{_≡_, refl}
 use lib.IntN.{pos, negsuc}
 use Rattle.decimal.specs.declared.field.Field.the-variants.{Number, NoNumber}
-use Rattle.decimal.specs.Digits.{countUpTo, digitCount, lastDigits, decimal, valueFrom}
-use Rattle.decimal.specs.Signed.{signed}
+use Rattle.decimal.specs.Digits.{countUpTo, digitCount, lastDigits, decimal, valueFrom, signed}
 use Rattle.decimal.specs.Writing.{written}
 use Rattle.decimal.specs.Fields.{isDigit, digitRun, leadingZero, isNumeral, fieldOf}
 

@@ -14,8 +14,7 @@ use mir.Syntax.{w64}
 use mir.Val.{SFits, toZ, ofZ}
 use mir.Facts.{toZ-ofZ, sfits-lit}
 use borrow.Author.Tests.{ltb-true}
-use Rattle.decimal.specs.Digits.{digitCount, decimal}
-use Rattle.decimal.specs.Signed.{signed}
+use Rattle.decimal.specs.Digits.{digitCount, decimal, signed}
 use Rattle.decimal.proofs.Values.{length-decimal}
 
 next-fits : (n : ℕ) → n < 2 ^ 63 → SFits w64 (negsuc n +ℤ pos 1)

@@ -1,12 +1,10 @@
--- What is proved of decimal digits, for numbers of any size.
---   Claims   one field for each theorem; proofs/Claims.antt has the proof of all
--- Assumes nothing.
+-- What is proved of decimal digits, for numbers of any size; proofs/Claims.antt has the proof of all. Assumes nothing.
 use Rattle.laws.specs.Words.{ℕ, suc, _-_, _^_, _≤_, _<_, false, List, [], _++_, _≡_, length}
 use Rattle.decimal.specs.Digits.{digitCount, decimal, valueOf}
 use Rattle.decimal.specs.Fields.{maxDigits, digitRun, leadingZero, fieldOf}
 use Rattle.decimal.specs.declared.field.Field.the-variants.{Number}
 
--- The theorems on digits, counts and reading back.
+-- One field for each theorem on digits, counts and reading back.
 pub record Claims : Type 0 where
   -- The digits of a number spell it.
   pub value-decimal : (n : ℕ) → valueOf (decimal n) ≡ n

@@ -19,8 +19,7 @@ use Rattle.jobs.specs.declared.refusal.Check.the-variants.{Passed}
 use Rattle.jobs.specs.Limits.{maxJobs, maxChains, maxRelease, maxPriority, maxTime, maxDeadline}
 use Rattle.jobs.specs.Refusals.{unless}
 use Rattle.jobs.specs.Jobs.{noJob, jobAt}
-use Rattle.jobs.specs.Records.{isNext, inLimits, recordCheck}
-use Rattle.jobs.specs.Checks.{recordsCheck, anyRecord, checkOf}
+use Rattle.jobs.specs.Checks.{isNext, inLimits, recordCheck, recordsCheck, anyRecord, checkOf}
 use Rattle.jobs.proofs.Checks.{then-first, then-second, nextCheck, last-take, Reached, reached-start, reached-next, reached-end, any-some, check-passed}
 
 -- The order of two neighbours: the chain goes on with its next job, or the next chain begins with its first.

@@ -17,8 +17,7 @@ use Rattle.jobs.specs.declared.refusal.Check.the-variants.{Passed, Refus
 use Rattle.jobs.specs.Limits.{maxJobs}
 use Rattle.jobs.specs.Refusals.{andThen}
 use Rattle.jobs.specs.Jobs.{noJob, jobAt}
-use Rattle.jobs.specs.Records.{recordCheck}
-use Rattle.jobs.specs.Checks.{recordsCheck, anyRecord, checkOf}
+use Rattle.jobs.specs.Checks.{recordCheck, recordsCheck, anyRecord, checkOf}
 
 -- ---- checks in sequence
 pub then-first : (a b : Check) → andThen a b ≡ Passed → a ≡ Passed

@@ -1,26 +1,52 @@
--- The check of a whole set. Document 01, "Sets handed by value are checked with 4 to 6 record by record, the first bad record deciding, then 7".
---   recordsCheck   4 to 6 for each record in turn, after the records that come before
---   anyRecord      7
---   checkOf        both; a set is accepted where this passes
--- Assumes nothing.
-use Rattle.laws.specs.Words.{List, [], _∷_, _++_, length, lastOf}
+-- The checks of a record and of a set. Document 01, numbers 4 to 7, and "Sets handed by value are checked with 4 to 6 record by record, the first
+-- bad record deciding, then 7". Assumes nothing.
+use Rattle.laws.specs.Words.{ℕ, _+_, Bool, cond, _&&_, List, [], _∷_, _++_, length, leb, ltb, eqb, lastOf}
 use Rattle.jobs.specs.declared.job.Job.{Job}
-use Rattle.jobs.specs.declared.refusal.Refusal.the-variants.{NoRecord}
+use Rattle.jobs.specs.declared.refusal.Refusal.the-variants.{TooManyRecords, OutOfOrder, OutOfLimits, NoRecord}
 use Rattle.jobs.specs.declared.refusal.Check.{Check}
 use Rattle.jobs.specs.declared.refusal.Check.the-variants.{Passed, Refused}
-use Rattle.jobs.specs.Refusals.{andThen}
+use Rattle.jobs.specs.Limits.{maxJobs, maxChains, maxRelease, maxPriority, maxTime, maxDeadline}
+use Rattle.jobs.specs.Refusals.{unless, andThen}
 use Rattle.jobs.specs.Jobs.{noJob}
-use Rattle.jobs.specs.Records.{recordCheck}
 
+-- Whether chain and job come next in order, each counted from 1; n records come before this one, the last of which is `last`.
+unfoldable pub isNext : ℕ → Job → Job → Bool
+isNext n last j =
+    cond (eqb n 0) (eqb (j .chain) 1 && eqb (j .job) 1)
+    (cond (eqb (j .chain) (last .chain)) (eqb (j .job) (last .job + 1))
+    (eqb (j .chain) (last .chain + 1) && eqb (j .job) 1))
+
+-- Whether chain number and values are within their limits, and least does not exceed most.
+unfoldable pub inLimits : Job → Bool
+inLimits j =
+    leb (j .chain) maxChains
+    && leb (j .release) maxRelease
+    && leb (j .priority) maxPriority
+    && leb 1 (j .least)
+    && leb (j .least) (j .most)
+    && leb (j .most) maxTime
+    && leb (j .deadline) maxDeadline
+
+-- 4 to 6 for one record, in their order.
+unfoldable pub recordCheck : ℕ → Job → Job → Check
+recordCheck n last j =
+    unless (ltb n maxJobs) TooManyRecords
+    (unless (isNext n last j) OutOfOrder
+    (unless (inLimits j) OutOfLimits
+    Passed))
+
+-- 4 to 6 for each record in turn, after the records that come before.
 unfoldable pub recordsCheck : List Job → List Job → Check
 recordsCheck before [] = Passed
 recordsCheck before (j ∷ js) =
     let later = recordsCheck (before ++ (j ∷ [])) js in
     andThen (recordCheck (length before) (lastOf noJob before) j) later
 
+-- 7.
 abbrev pub anyRecord : List Job → Check
 anyRecord [] = Refused NoRecord
 anyRecord (j ∷ js) = Passed
 
+-- The whole check: a set is accepted where this passes.
 unfoldable pub checkOf : List Job → Check
 checkOf js = andThen (recordsCheck [] js) (anyRecord js)

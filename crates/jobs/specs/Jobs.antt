@@ -1,23 +1,21 @@
--- Jobs and the sets that hold them. Document 01, "A job table", and "A form for each place".
---   noJob     what stands in a set where there is no job
---   jobAt     the job at a place, and no job beyond the last
---   jobsOf    a set's records, as many as it counts
---   setOf     the set that holds these jobs, and no job in its other places
--- Assumes nothing.
+-- Jobs and the sets that hold them. Document 01, "A job table", and "A form for each place". Assumes nothing.
 use Rattle.laws.specs.Words.{ℕ, List, length, getD, tabulate, padded}
 use Rattle.jobs.specs.declared.job.Job.{Job}
 use Rattle.jobs.specs.declared.set.JobSet.{JobSet}
 use Rattle.jobs.specs.Limits.{maxJobs}
 
+-- What stands in a set where there is no job.
 abbrev pub noJob : Job
 noJob = record { chain = 0; job = 0; release = 0; priority = 0; least = 0; most = 0; deadline = 0 }
 
+-- The job at a place, and no job beyond the last.
 abbrev pub jobAt : List Job → ℕ → Job
 jobAt js i = getD js i noJob
 
--- A set handed by value may count more jobs than it has places; the records beyond those hold nothing.
+-- A set's records, as many as it counts; one handed by value may count more than it has places, and those hold no job.
 unfoldable pub jobsOf : JobSet → List Job
 jobsOf set = tabulate 0 (set .count) (λ i. getD (set .jobs) i noJob)
 
+-- The set that holds these jobs, and no job in its other places.
 unfoldable pub setOf : List Job → JobSet
 setOf js = record { jobs = padded maxJobs noJob js; count = length js }

@@ -1,9 +1,4 @@
 -- A further chain joins a set. Document 01, "Admission joins a chain as the highest-numbered one", and the last paragraph of the refusals.
---   renumbered  a job under another chain and job number
---   numbered    records as the jobs k, k + 1, … of the chain c
---   withChain   a set's jobs and, behind them, the new ones as the next chain
---   joinCheck   4 to 6 over the joined records, then 7 where there is no new one
---   joinOf      the joined set, or the refusal and the old set as it was
 -- Assumes nothing.
 use Rattle.laws.specs.Words.{ℕ, _+_, List, [], _∷_, _++_, lastOf}
 use Rattle.jobs.specs.declared.job.Job.{Job}
@@ -15,7 +10,7 @@ use Rattle.jobs.specs.Refusals.{andThen}
 use Rattle.jobs.specs.Jobs.{noJob, jobsOf, setOf}
 use Rattle.jobs.specs.Checks.{recordsCheck, anyRecord}
 
--- Its values stay.
+-- A job under another chain and job number, with its values as they were.
 abbrev pub renumbered : ℕ → ℕ → Job → Job
 renumbered c k j =
     record {
@@ -28,20 +23,24 @@ renumbered c k j =
       deadline = j .deadline;
     }
 
+-- Records as the jobs k, k + 1, … of the chain c.
 unfoldable pub numbered : ℕ → ℕ → List Job → List Job
 numbered c k [] = []
 numbered c k (j ∷ js) = renumbered c k j ∷ numbered c (k + 1) js
 
+-- A set's jobs and, behind them, the new ones as the next chain.
 unfoldable pub withChain : List Job → List Job → List Job
 withChain old new = old ++ numbered (lastOf noJob old .chain + 1) 1 new
 
+-- 4 to 6 over the joined records, then 7 where there is no new one.
 unfoldable pub joinCheck : List Job → List Job → Check
 joinCheck old new = andThen (recordsCheck [] (withChain old new)) (anyRecord new)
 
--- On a refusal the old set stays.
+-- What a check leaves of the old set and the joined one.
 abbrev pub joinedBy : Check → JobSet → JobSet → Joined
 joinedBy Passed old joined = record { check = Passed; set = joined }
 joinedBy (Refused refusal) old joined = record { check = Refused refusal; set = old }
 
+-- The joined set, or the refusal and the old set as it was.
 unfoldable pub joinOf : JobSet → JobSet → Joined
 joinOf old new = joinedBy (joinCheck (jobsOf old) (jobsOf new)) old (setOf (withChain (jobsOf old) (jobsOf new)))

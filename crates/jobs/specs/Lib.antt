@@ -1,6 +1,5 @@
 pub mod Limits
 pub mod Refusals
 pub mod Jobs
-pub mod Records
 pub mod Checks
 pub mod Joins

@@ -1,4 +1,4 @@
--- The greatest values of a job table. Document 01, "A job table". Assumes nothing.
+-- The greatest values of a job table, each named by what it limits. Document 01, "A job table". Assumes nothing.
 use Rattle.laws.specs.Words.{ℕ}
 
 abbrev pub maxJobs : ℕ

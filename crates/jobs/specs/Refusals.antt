@@ -1,14 +1,11 @@
--- The refusals and their numbers. Document 01, "Numbers of refusal, in checking order".
---   numberOf   the number of a refusal
---   unless     one check in a sequence
---   andThen    two checks in sequence
--- Assumes nothing.
+-- The refusals and their numbers, and checks in sequence. Document 01, "Numbers of refusal, in checking order". Assumes nothing.
 use Rattle.laws.specs.Words.{ℕ, Bool, true, false}
 use Rattle.jobs.specs.declared.refusal.Refusal.{Refusal}
 use Rattle.jobs.specs.declared.refusal.Refusal.the-variants.{TextTooLong, NotHeader, MalformedLine, TooManyRecords, OutOfOrder, OutOfLimits, NoRecord, RunningTimes, ShortBuffer, UnknownAlgorithm, ImpossibleState}
 use Rattle.jobs.specs.declared.refusal.Check.{Check}
 use Rattle.jobs.specs.declared.refusal.Check.the-variants.{Passed, Refused}
 
+-- The number of a refusal.
 abbrev pub numberOf : Refusal → ℕ
 numberOf TextTooLong = 1
 numberOf NotHeader = 2
@@ -22,12 +19,12 @@ numberOf ShortBuffer = 9
 numberOf UnknownAlgorithm = 10
 numberOf ImpossibleState = 11
 
--- The refusal where the test fails, else what the checks after it come to.
+-- One check in a sequence: the refusal where the test fails, else what the checks after it come to.
 abbrev pub unless : Bool → Refusal → Check → Check
 unless true refusal later = later
 unless false refusal later = Refused refusal
 
--- The first refusal decides.
+-- Two checks in sequence: the first refusal decides.
 abbrev pub andThen : Check → Check → Check
 andThen Passed later = later
 andThen (Refused refusal) later = Refused refusal

@@ -1,6 +1,6 @@
 // The checks of one record, refusals 4 to 6: how many there are, its place in the order, and its limits.
 ghost use Rattle.laws.specs.Words.{_≡_, _+_, eqb};
-ghost use Rattle.jobs.specs.Records.{isNext, inLimits, recordCheck};
+ghost use Rattle.jobs.specs.Checks.{isNext, inLimits, recordCheck};
 use crate::job::Job;
 use crate::refusal::Check;
 use crate::refusal::Refusal;

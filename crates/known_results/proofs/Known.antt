@@ -6,13 +6,12 @@ use mathlib.Core.Path.{_≡_, refl}
 use mathlib.Core.Bool.{true, false}
 use mathlib.Core.List.{List, [], _∷_, map}
 use native.Mathlib.Omega.{arith}
-use lib.IntN.{pos, negsuc}
+use lib.IntN.{pos}
 use lib.ListN.{length, getD}
 use Rattle.laws.specs.Words.{sumBelow, tabulate, greatest, lastOf, everyBelow}
 use Rattle.jobs.specs.declared.job.Job.{Job}
 use Rattle.jobs.specs.declared.refusal.Check.the-variants.{Passed}
-use Rattle.jobs.specs.Records.{isNext, inLimits, recordCheck}
-use Rattle.jobs.specs.Checks.{recordsCheck, checkOf}
+use Rattle.jobs.specs.Checks.{isNext, inLimits, recordCheck, recordsCheck, checkOf}
 use Rattle.jobs.specs.Jobs.{jobAt}
 use Rattle.theory.specs.Table.{joined}
 use Rattle.theory.specs.Releases.{effectiveEarliest, effectiveLatest, tableOf}
@@ -29,7 +28,7 @@ use Rattle.machine.specs.Pick.{outranks, goesFirst, pickUpTo, pick}
 use Rattle.machine.specs.Ticks.{allComplete, next}
 use Rattle.machine.specs.Traces.{goesOn, extended, rows}
 use Rattle.machine.proofs.Forward.{Carried, onward, carried, run-carried, trace-carried}
-use Rattle.known_results.specs.Cases.{answersOf, KnownRun, runWith, Case, byDefinition, p1, p2, p3, p4With3, p4, p5, p6With4, p6With6, p6, p7, p8, cases}
+use Rattle.known_results.specs.Cases.{answersOf, KnownRun, runWith, Case, byDefinition, minus, p1, p2, p3, p4With3, p4, p5, p6With4, p6With6, p6, p7, p8, cases}
 
 -- ---- runs
 -- what ticks carried forward give of a run
@@ -78,7 +77,7 @@ unfolding tabulate sumBelow greatest lastOf isNext inLimits recordCheck recordsC
 known-results =
     first-and-rest (answered p1 (figures p1 refl refl refl refl refl refl refl refl refl) (first-and-rest (settled-run (p1 .jobs) p2 refl (omega arith) refl refl) (first-and-rest (settled-run (p1 .jobs) p3 refl (omega arith) refl refl) refl)))
     (first-and-rest (answered (p4 12 (pos 0) true) (figures (p4 12 (pos 0) true) refl refl refl refl refl refl refl refl refl) (first-and-rest (settled-run (p4 12 (pos 0) true .jobs) p4With3 refl (omega arith) refl refl) refl))
-    (first-and-rest (answered (p4 11 (negsuc 0) false) (figures (p4 11 (negsuc 0) false) refl refl refl refl refl refl refl refl refl) (first-and-rest (settled-run (p4 11 (negsuc 0) false .jobs) p4With3 refl (omega arith) refl refl) refl))
+    (first-and-rest (answered (p4 11 (minus 1) false) (figures (p4 11 (minus 1) false) refl refl refl refl refl refl refl refl refl) (first-and-rest (settled-run (p4 11 (minus 1) false .jobs) p4With3 refl (omega arith) refl refl) refl))
     (first-and-rest (answered p5 (figures p5 refl refl refl refl refl refl refl refl refl) refl)
     (first-and-rest (answered p6 (figures p6 refl refl refl refl refl refl refl refl refl) (first-and-rest (settled-run (p6 .jobs) p6With4 refl (omega arith) refl refl) (first-and-rest (settled-run (p6 .jobs) p6With6 refl (omega arith) refl refl) refl)))
     (first-and-rest (answered p7 (figures p7 refl refl refl refl refl refl refl refl refl) refl)

@@ -10,7 +10,7 @@ use lib.Seq.{take-suc, take-all, length-take-le}
 use Rattle.decimal.specs.Digits.{digitCount, decimal}
 use Rattle.decimal.proofs.Counts.{count-within}
 use Rattle.decimal.proofs.Values.{length-decimal}
-use Rattle.report.specs.Columns.{columnText, columnsFrom, columnsText}
+use Rattle.report.specs.Rows.{columnText, columnsFrom, columnsText}
 
 pub first-length : (k value : ℕ) → k ≡ 0 → length (columnText k value) ≡ digitCount value
 unfolding columnText

@@ -5,8 +5,7 @@ use mathlib.Core.Path.{_≡_, refl}
 use native.Mathlib.Numerals.{add-one}
 use lib.ListN.{length, length-append}
 use Rattle.laws.proofs.Pieces.{Made, PiecesWritten}
-use Rattle.report.specs.Columns.{columnsText}
-use Rattle.report.specs.Refusals.{lineEnd}
+use Rattle.report.specs.Rows.{columnsText, lineEnd}
 use Rattle.report.specs.Private.{entryValues, entryText, entriesText}
 
 pub entry-length : (numbers : List ℕ) (n : ℕ) → length (entryText numbers n) ≡ length (columnsText (entryValues numbers n)) + 2

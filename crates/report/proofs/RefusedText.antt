@@ -15,8 +15,8 @@ use Rattle.laws.proofs.Tests.{by-test}
 use Rattle.jobs.specs.declared.refusal.Refusal.{Refusal}
 use Rattle.jobs.specs.declared.refusal.Refusal.the-variants.{TextTooLong, NotHeader, MalformedLine, TooManyRecords, OutOfOrder, OutOfLimits, NoRecord, RunningTimes, ShortBuffer, UnknownAlgorithm, ImpossibleState}
 use Rattle.jobs.specs.Refusals.{numberOf}
-use Rattle.report.specs.Columns.{columnText}
-use Rattle.report.specs.Refusals.{lineEnd, refusedText}
+use Rattle.report.specs.Rows.{columnText, lineEnd}
+use Rattle.report.specs.Refusals.{refusedText}
 use Rattle.report.proofs.ColumnTexts.{word-digits}
 
 pub refused-length : (refusal : Refusal) → length (refusedText refusal) ≡ 10 + digitCount (numberOf refusal)

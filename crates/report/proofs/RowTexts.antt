@@ -7,12 +7,10 @@ use lib.IntN.{ℤ, pos, negsuc}
 use lib.ListN.{length, length-append}
 use mir.Syntax.{w64}
 use mir.Val.{SFits}
-use Rattle.decimal.specs.Signed.{signed}
+use Rattle.decimal.specs.Digits.{signed}
 use Rattle.decimal.proofs.Values.{length-decimal}
 use Rattle.jobs.specs.declared.job.Job.{Job}
-use Rattle.report.specs.Columns.{columnsText}
-use Rattle.report.specs.Refusals.{lineEnd}
-use Rattle.report.specs.Rows.{slackText, boundsRow}
+use Rattle.report.specs.Rows.{columnsText, lineEnd, slackText, boundsRow}
 use Rattle.report.proofs.ColumnTexts.{word-digits}
 
 -- an integer of 64 bits has at most 19 digits, and takes at most 21 bytes

@@ -19,9 +19,7 @@ use Rattle.machine.specs.declared.trace.Traced.the-variants.{Entries, Refused a
 use Rattle.machine.specs.Traces.{row, rows, traced, traceOf, tracedIn}
 use Rattle.machine.proofs.Tracing.{rows-length, trace-written, traced-length}
 use Rattle.machine.proofs.Claims.{trace-within-twice}
-use Rattle.report.specs.Columns.{columnsText}
-use Rattle.report.specs.Refusals.{lineEnd}
-use Rattle.report.specs.Entries.{spanText, spansText}
+use Rattle.report.specs.Rows.{columnsText, lineEnd, spanText, spansText}
 use Rattle.report.specs.Private.{entryValues, entryText, entriesText}
 use Rattle.report.specs.Texts.{mostTimes, traceHeader, traceText}
 use Rattle.report.proofs.Wholes.{patched-start}

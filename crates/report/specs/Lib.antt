@@ -1,7 +1,5 @@
-pub mod Columns
-pub mod Refusals
 pub mod Rows
-pub mod Entries
+pub mod Refusals
 pub mod Private
 pub mod Texts
 pub mod Claims

@@ -1,9 +1,4 @@
--- The line that a refusal prints. Document 01, "Programs and the C side".
---   lineEnd       CR LF
---   refusedText   `refused,` and the number, with CR LF
---   printLength   how many bytes of a buffer a program prints: the text in it, or the line of a refusal
---   printLeft     the buffer that it prints them from
--- Assumes nothing.
+-- The line that a refusal prints, and what a program prints. Document 01, "Programs and the C side". Assumes nothing.
 use Rattle.laws.specs.Words.{ℕ, List, _++_, ascii}
 use Rattle.decimal.specs.Digits.{decimal}
 use Rattle.decimal.specs.Writing.{written, writtenLength}
@@ -11,17 +6,18 @@ use Rattle.jobs.specs.declared.refusal.Refusal.{Refusal}
 use Rattle.jobs.specs.Refusals.{numberOf}
 use Rattle.report.specs.declared.written.Written.{Written}
 use Rattle.report.specs.declared.written.Written.the-variants.{Bytes, Refused}
+use Rattle.report.specs.Rows.{lineEnd}
 
-abbrev pub lineEnd : List ℕ
-lineEnd = ascii "\r\n"
-
+-- `refused,` and the number, with CR LF.
 unfoldable pub refusedText : Refusal → List ℕ
 refusedText refusal = ascii "refused," ++ decimal (numberOf refusal) ++ lineEnd
 
+-- How many bytes of a buffer a program prints: the text in it, or the line of a refusal.
 abbrev pub printLength : Written → List ℕ → ℕ
 printLength (Bytes n) buffer = n
 printLength (Refused refusal) buffer = writtenLength (refusedText refusal) buffer
 
+-- The buffer that it prints them from.
 abbrev pub printLeft : Written → List ℕ → List ℕ
 printLeft (Bytes n) buffer = buffer
 printLeft (Refused refusal) buffer = written (refusedText refusal) buffer

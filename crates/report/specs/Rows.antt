@@ -1,23 +1,49 @@
--- Rows of the bounds text. Document 01, "Programs and the C side".
---   slackText    a comma and the slack, with its minus sign below zero
---   boundsRow    a row of the bounds text: chain, job, the three bounds and the slack
---   boundsRows   the rows of the first n jobs
--- Assumes nothing.
-use Rattle.laws.specs.Words.{ℕ, zero, suc, List, [], _∷_, _++_, ℤ, pos, getD}
-use Rattle.decimal.specs.Signed.{signed}
+-- Rows of the bounds text and the trace text. Document 01, "Programs and the C side". Assumes nothing.
+use Rattle.laws.specs.Words.{ℕ, zero, suc, List, [], _∷_, _++_, ℤ, pos, getD, ascii}
+use Rattle.decimal.specs.Digits.{decimal, signed}
 use Rattle.jobs.specs.declared.job.Job.{Job}
 use Rattle.jobs.specs.Jobs.{jobAt}
-use Rattle.report.specs.Columns.{columnsText}
-use Rattle.report.specs.Refusals.{lineEnd}
+use Rattle.machine.specs.declared.trace.Span.{Span}
+use Rattle.machine.specs.Traces.{row}
 
+-- CR LF.
+abbrev pub lineEnd : List ℕ
+lineEnd = ascii "\r\n"
+
+-- A number as column k: its digits, with a comma, code 44, before all but the first.
+unfoldable pub columnText : ℕ → ℕ → List ℕ
+columnText zero value = decimal value
+columnText (suc k) value = 44 ∷ decimal value
+
+-- Numbers as the columns from k on.
+unfoldable pub columnsFrom : ℕ → List ℕ → List ℕ
+columnsFrom k [] = []
+columnsFrom k (value ∷ values) = columnText k value ++ columnsFrom (suc k) values
+
+-- Numbers as the columns of a line.
+abbrev pub columnsText : List ℕ → List ℕ
+columnsText values = columnsFrom 0 values
+
+-- A comma and the slack, with its minus sign below zero.
 unfoldable pub slackText : ℤ → List ℕ
 slackText slack = 44 ∷ signed slack
 
+-- A row of the bounds text: chain, job, the three bounds and the slack.
 unfoldable pub boundsRow : Job → ℕ → ℕ → ℕ → ℤ → List ℕ
 boundsRow j ert cja itr slack = columnsText (j .chain ∷ j .job ∷ ert ∷ cja ∷ itr ∷ []) ++ slackText slack ++ lineEnd
 
+-- The rows of the first n jobs.
 unfoldable pub boundsRows : List Job → List ℕ → List ℕ → List ℕ → List ℤ → ℕ → List ℕ
 boundsRows js ert cja itr slacks zero = []
 boundsRows js ert cja itr slacks (suc n) =
     boundsRows js ert cja itr slacks n
     ++ boundsRow (jobAt js n) (getD ert n 0) (getD cja n 0) (getD itr n 0) (getD slacks n (pos 0))
+
+-- A row of the trace text: chain, job, from, to.
+unfoldable pub spanText : List Job → Span → List ℕ
+spanText js s = columnsText (row js s) ++ lineEnd
+
+-- The rows of spans, the earliest first, which stands last in the list.
+unfoldable pub spansText : List Job → List Span → List ℕ
+spansText js [] = []
+spansText js (s ∷ ss) = spansText js ss ++ spanText js s

@@ -1,12 +1,4 @@
--- Whole texts in a lent buffer. Document 01, "Programs and the C side", and number 9.
---   boundsText                 the bounds text of a list of jobs
---   mostTimes                  the most time of each job
---   traceText                  the trace text of a list of jobs
---   answerTo                   how many bytes a text takes in a buffer, or refusal 9
---   answerAfter, leftAfter     the answer and the buffer, where a check comes before
---   boundsAnswer, boundsLeft   the same for the bounds text of a table
---   traceAnswer, traceLeft     the same for the trace text of a table
--- Assumes nothing.
+-- Whole texts in a lent buffer. Document 01, "Programs and the C side", and number 9. Assumes nothing.
 use Rattle.laws.specs.Words.{ℕ, cond, List, _++_, map, leb, length, ascii}
 use Rattle.decimal.specs.Writing.{written}
 use Rattle.jobs.specs.declared.job.Job.{Job}
@@ -22,49 +14,56 @@ use Rattle.theory.specs.Verdicts.{slacks}
 use Rattle.machine.specs.Traces.{traced}
 use Rattle.report.specs.declared.written.Written.{Written}
 use Rattle.report.specs.declared.written.Written.the-variants.{Bytes, Refused}
-use Rattle.report.specs.Rows.{boundsRows}
-use Rattle.report.specs.Entries.{spansText}
+use Rattle.report.specs.Rows.{boundsRows, spansText}
 
+-- The first line of the bounds text.
 abbrev pub boundsHeader : List ℕ
 boundsHeader = ascii "chain,job,ert,cja,itr,slack\r\n"
 
--- A row for each job, in table order.
+-- The bounds text of a list of jobs: a row for each, in table order.
 unfoldable pub boundsText : List Job → List ℕ
 boundsText js =
     let t = tableOf js in
     boundsHeader ++ boundsRows js (ert t) (cja t) (itr t .bounds) (slacks js) (length js)
 
+-- The first line of the trace text.
 abbrev pub traceHeader : List ℕ
 traceHeader = ascii "chain,job,from,to\r\n"
 
--- In table order.
+-- The most time of each job, in table order.
 unfoldable pub mostTimes : List Job → List ℕ
 mostTimes js = map (λ (j : Job). j .most) js
 
--- A row for each entry of the run with all most times.
+-- The trace text of a list of jobs: a row for each entry of the run with all most times.
 unfoldable pub traceText : List Job → List ℕ
 traceText js = traceHeader ++ spansText js (traced js (mostTimes js))
 
+-- How many bytes a text takes in a buffer, or refusal 9.
 unfoldable pub answerTo : List ℕ → List ℕ → Written
 answerTo text buffer = cond (leb (length text) (length buffer)) (Bytes (length text)) (Refused ShortBuffer)
 
+-- The same, where a check comes before.
 abbrev pub answerAfter : Check → List ℕ → List ℕ → Written
 answerAfter Passed text buffer = answerTo text buffer
 answerAfter (Stopped refusal) text buffer = Refused refusal
 
--- A text that does not fit leaves the buffer too (`written`).
+-- The buffer after it, which a text that does not fit leaves too (`written`).
 abbrev pub leftAfter : Check → List ℕ → List ℕ → List ℕ
 leftAfter Passed text buffer = written text buffer
 leftAfter (Stopped refusal) text buffer = buffer
 
+-- The answer to the bounds text of a table, after the refusals of reading.
 unfoldable pub boundsAnswer : List ℕ → List ℕ → Written
 boundsAnswer table buffer = let reading = readingOf table in answerAfter (reading .check) (boundsText (jobsOf (reading .set))) buffer
 
+-- The buffer after it.
 unfoldable pub boundsLeft : List ℕ → List ℕ → List ℕ
 boundsLeft table buffer = let reading = readingOf table in leftAfter (reading .check) (boundsText (jobsOf (reading .set))) buffer
 
+-- The answer to the trace text of a table, after the refusals of reading.
 unfoldable pub traceAnswer : List ℕ → List ℕ → Written
 traceAnswer table buffer = let reading = readingOf table in answerAfter (reading .check) (traceText (jobsOf (reading .set))) buffer
 
+-- The buffer after that.
 unfoldable pub traceLeft : List ℕ → List ℕ → List ℕ
 traceLeft table buffer = let reading = readingOf table in leftAfter (reading .check) (traceText (jobsOf (reading .set))) buffer

@@ -1,6 +1,7 @@
 // Numbers with single commas between them, and bytes as they are, at a place of a buffer that has room for them.
 ghost use Rattle.laws.specs.Words.{_≡_, _+_, _*_, _≤_, length, patched};
-ghost use Rattle.report.specs.Columns.{mostColumns, columnText, columnsText};
+ghost use Rattle.report.specs.Private.{mostColumns};
+ghost use Rattle.report.specs.Rows.{columnText, columnsText};
 use decimal::count::digit_count;
 use decimal::unsigned::write_unsigned;
 

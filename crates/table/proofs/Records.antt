@@ -15,7 +15,7 @@ use Rattle.jobs.specs.declared.refusal.Check.{Check}
 use Rattle.jobs.specs.declared.refusal.Check.the-variants.{Passed, Refused}
 use Rattle.jobs.specs.Limits.{maxJobs}
 use Rattle.jobs.specs.Jobs.{noJob, jobsOf, setOf}
-use Rattle.jobs.specs.Records.{recordCheck}
+use Rattle.jobs.specs.Checks.{recordCheck}
 use Rattle.jobs.proofs.Sets.{length-jobs, jobs-set, grown, set-grown}
 use Rattle.jobs.proofs.Checks.{any-none, any-some}
 use Rattle.jobs.proofs.Accepted.{record-fine}

@@ -1,9 +1,4 @@
--- The fields of a line. Document 01, "A job table", and number 3.
---   columnOf      the field of a column at the start of what is left of the line; the first has no comma before it
---   fieldsIn      so many fields more, and nothing after them
---   rowOf         the values of a line of so many fields with single commas
---   lineOf        the first line of a text as the reader of a line answers it
--- Assumes nothing.
+-- The fields of a line. Document 01, "A job table", and number 3. Assumes nothing.
 use Rattle.laws.specs.Words.{ℕ, zero, suc, _+_, _-_, cond, List, [], _∷_, _++_, length, drop, eqb, padded}
 use Rattle.decimal.specs.declared.field.Field.{Field}
 use Rattle.decimal.specs.declared.field.Field.the-variants.{Number, NoNumber}
@@ -27,6 +22,7 @@ unfoldable pub afterComma : List ℕ → Field
 afterComma [] = NoNumber
 afterComma (b ∷ text) = cond (eqb b 44) (withComma (fieldOf text)) NoNumber
 
+-- The field of a column at the start of what is left of the line; the first has no comma before it.
 abbrev pub columnOf : ℕ → List ℕ → Field
 columnOf k text = cond (eqb k 0) (fieldOf text) (afterComma text)
 
@@ -35,25 +31,31 @@ pub data Row : Type 0 where
   row : List ℕ → Row
   noRow : Row
 
+-- What follows a field; where there is no number there is no row.
 abbrev pub thenField : Field → (ℕ → ℕ → Row) → Row
 thenField (Number value length) rest = rest value length
 thenField NoNumber rest = noRow
 
+-- The values before and so many fields more, with nothing after them.
 unfoldable pub fieldsIn : ℕ → List ℕ → List ℕ → Row
 fieldsIn zero before [] = row before
 fieldsIn zero before (b ∷ text) = noRow
 fieldsIn (suc k) before text =
     thenField (columnOf (length before) text) (λ value n. fieldsIn k (before ++ (value ∷ [])) (drop n text))
 
+-- The values of a line of so many fields with single commas.
 abbrev pub rowOf : ℕ → List ℕ → Row
 rowOf columns line = fieldsIn columns [] line
 
+-- What the reader of a line answers of any other.
 abbrev pub malformedLine : Line
 malformedLine = record { check = Refused MalformedLine; values = padded maxColumns 0 []; length = 0 }
 
+-- What it answers of a row that takes n bytes with its end.
 abbrev pub lineWith : Row → ℕ → Line
 lineWith (row values) n = record { check = Passed; values = padded maxColumns 0 values; length = n }
 lineWith noRow n = malformedLine
 
+-- What it answers of the first line of a text.
 unfoldable pub lineOf : ℕ → List ℕ → Line
 lineOf columns text = lineWith (rowOf columns (firstLine text)) (length text - length (afterLine text))

@@ -1,11 +1,4 @@
--- A whole job table. Document 01, "A job table", and numbers 1 to 7.
---   header        the first line
---   maxText       the greatest length of a text
---   jobOf         the job that a record's values describe
---   recordsFrom   3 to 6 line by line, the first bad line deciding, then 7
---   readingOf     the answer to reading a text: its jobs, or the refusal with no jobs
---   headerEnd     where the first line is the header, how many bytes it takes with its end
--- Assumes nothing.
+-- A whole job table. Document 01, "A job table", and numbers 1 to 7. Assumes nothing.
 use Rattle.laws.specs.Words.{ℕ, _-_, Bool, true, false, cond, List, [], _∷_, _++_, length, getD, leb, eqb, lastOf, ascii}
 use Rattle.jobs.specs.declared.job.Job.{Job}
 use Rattle.jobs.specs.declared.refusal.Refusal.{Refusal}
@@ -13,20 +6,22 @@ use Rattle.jobs.specs.declared.refusal.Refusal.the-variants.{TextTooLong, NotHe
 use Rattle.jobs.specs.declared.refusal.Check.{Check}
 use Rattle.jobs.specs.declared.refusal.Check.the-variants.{Passed, Refused}
 use Rattle.jobs.specs.Jobs.{noJob, setOf}
-use Rattle.jobs.specs.Records.{recordCheck}
-use Rattle.jobs.specs.Checks.{anyRecord}
+use Rattle.jobs.specs.Checks.{recordCheck, anyRecord}
 use Rattle.table.specs.declared.line.End.{End}
 use Rattle.table.specs.declared.line.End.the-variants.{Here, Elsewhere}
 use Rattle.table.specs.declared.reading.Reading.{Reading}
 use Rattle.table.specs.Lines.{firstLine, afterLine, linesOf}
 use Rattle.table.specs.Rows.{maxColumns, Row, row, noRow, rowOf}
 
+-- The first line.
 abbrev pub header : List ℕ
 header = ascii "chain,job,release,priority,least,most,deadline"
 
+-- The greatest length of a text.
 abbrev pub maxText : ℕ
 maxText = 4096
 
+-- The job that a record's values describe, in the order of the columns.
 abbrev pub jobOf : List ℕ → Job
 jobOf values =
     record {
@@ -39,10 +34,11 @@ jobOf values =
       deadline = getD values 6 0;
     }
 
--- A refused table has no jobs.
+-- The answer to a refused table: the refusal, and no jobs.
 abbrev pub refusedWith : Refusal → Reading
 refusedWith refusal = record { check = Refused refusal; set = setOf [] }
 
+-- The answer after the check that comes last.
 abbrev pub readWith : Check → List Job → Reading
 readWith Passed js = record { check = Passed; set = setOf js }
 readWith (Refused refusal) js = refusedWith refusal
@@ -57,6 +53,7 @@ abbrev pub thenCheck : Check → Reading → Reading
 thenCheck Passed rest = rest
 thenCheck (Refused refusal) rest = refusedWith refusal
 
+-- 3 to 6 line by line after the records before, the first bad line deciding, then 7.
 unfoldable pub recordsFrom : List Job → List (List ℕ) → Reading
 recordsFrom before [] = readWith (anyRecord before) before
 recordsFrom before (line ∷ lines) =
@@ -70,13 +67,15 @@ same [] (b ∷ text) = false
 same (a ∷ line) [] = false
 same (a ∷ line) (b ∷ text) = cond (eqb a b) (same line text) false
 
+-- 2, then the lines under the header.
 abbrev pub underHeader : List (List ℕ) → Reading
 underHeader [] = refusedWith NotHeader
 underHeader (line ∷ lines) = cond (same line header) (recordsFrom [] lines) (refusedWith NotHeader)
 
+-- The answer to reading a text: its jobs, or the refusal with no jobs; 1 comes first.
 unfoldable pub readingOf : List ℕ → Reading
 readingOf text = cond (leb (length text) maxText) (underHeader (linesOf text)) (refusedWith TextTooLong)
 
--- What the reader of the header answers.
+-- What the reader of the header answers: how many bytes it takes with its end, where the first line is the header.
 unfoldable pub headerEnd : List ℕ → End
 headerEnd text = cond (same (firstLine text) header) (Here (length text - length (afterLine text))) Elsewhere

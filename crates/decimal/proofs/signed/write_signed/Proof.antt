@@ -4,8 +4,7 @@ use mathlib.Core.Path.{_≡_}
 use mathlib.Core.List.{_∷_}
 use native.Mathlib.Omega.{arith}
 use borrow.Author.Needs.{needs}
-use Rattle.decimal.specs.Digits.{decimal}
-use Rattle.decimal.specs.Signed.{signed}
+use Rattle.decimal.specs.Digits.{decimal, signed}
 use Rattle.decimal.proofs.Values.{decimal-some}
 use Rattle.decimal.proofs.Signs.{text-below, text-else}
 use Rattle.decimal.proofs.Writing.{writes-short, byte-room, byte-short, byte-written}

@@ -3,7 +3,7 @@ use borrow.Author.Needs.{needs}
 use borrow.Author.Tests.{lt-ltb, le-ltb, not-true, not-false}
 use mathlib.Core.Path.{sym, _∙_}
 use Rattle.jobs.specs.Limits.{maxJobs}
-use Rattle.jobs.specs.Records.{recordCheck}
+use Rattle.jobs.specs.Checks.{recordCheck}
 use Rattle.jobs.proofs.record.check_record.Statement.{statement}
 use Rattle.jobs.proofs.record.check_record.Tie as tie
 

@@ -1,6 +1,6 @@
 -- `in_limits` answers `inLimits`. Assumes nothing.
 use mathlib.Core.Path.{refl}
-use Rattle.jobs.specs.Records.{inLimits}
+use Rattle.jobs.specs.Checks.{inLimits}
 use Rattle.jobs.proofs.record.in_limits.Statement.{statement}
 use Rattle.jobs.proofs.record.in_limits.Tie as tie
 

@@ -1,7 +1,7 @@
 -- `is_next` answers `isNext`: each return is the case that its tests chose. Assumes nothing.
 use borrow.Author.Needs.{needs}
 use borrow.Author.Tests.{eq-eqb, ne-eqb}
-use Rattle.jobs.specs.Records.{isNext}
+use Rattle.jobs.specs.Checks.{isNext}
 use Rattle.jobs.proofs.record.is_next.Statement.{statement}
 use Rattle.jobs.proofs.record.is_next.Tie as tie
 

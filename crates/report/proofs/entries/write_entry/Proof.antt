@@ -3,8 +3,7 @@ use mathlib.Core.List.{[], _++_}
 use native.Mathlib.Omega.{arith}
 use borrow.Author.Needs.{needs}
 use Rattle.laws.proofs.Buffers.{Wrote, wrote-none, wrote-more, wrote-room, wrote-length}
-use Rattle.report.specs.Columns.{columnsText}
-use Rattle.report.specs.Refusals.{lineEnd}
+use Rattle.report.specs.Rows.{columnsText, lineEnd}
 use Rattle.report.specs.Private.{entryValues, entryText}
 use Rattle.report.proofs.EntryTexts.{entry-length, entry-pieces}
 use Rattle.report.proofs.entries.write_entry.Statement.{statement}

@@ -5,7 +5,7 @@ use native.Mathlib.Omega.{arith}
 use lib.ListN.{length}
 use mir.Facts.{toZ-ofZ}
 use borrow.Author.Needs.{needs}
-use Rattle.decimal.specs.Signed.{signed}
+use Rattle.decimal.specs.Digits.{signed}
 use Rattle.report.proofs.RowTexts.{signed-within, row-length}
 use Rattle.report.proofs.row.row_length.Statement.{statement}
 use Rattle.report.proofs.row.row_length.Tie as tie

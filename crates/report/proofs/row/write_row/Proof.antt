@@ -5,9 +5,7 @@ use lib.ListN.{length-append}
 use mir.Facts.{toZ-ofZ}
 use borrow.Author.Needs.{needs}
 use Rattle.laws.proofs.Buffers.{Wrote, wrote-none, wrote-more, wrote-room, wrote-length}
-use Rattle.report.specs.Columns.{columnsText}
-use Rattle.report.specs.Refusals.{lineEnd}
-use Rattle.report.specs.Rows.{slackText, boundsRow}
+use Rattle.report.specs.Rows.{columnsText, lineEnd, slackText, boundsRow}
 use Rattle.report.proofs.RowTexts.{slack-length, rowValues, row-pieces, row-length}
 use Rattle.report.proofs.row.write_row.Statement.{statement}
 use Rattle.report.proofs.row.write_row.Tie as tie

@@ -6,7 +6,7 @@ use mir.Facts.{toZ-ofZ}
 use borrow.Author.Needs.{needs}
 use borrow.Rule.Slice.PartMut.{putMid}
 use Rattle.laws.proofs.Buffers.{Wrote, wrote-length}
-use Rattle.decimal.specs.Signed.{signed}
+use Rattle.decimal.specs.Digits.{signed}
 use Rattle.report.specs.Rows.{slackText}
 use Rattle.report.proofs.ColumnWrites.{comma-written}
 use Rattle.report.proofs.RowTexts.{slack-length}

@@ -7,7 +7,7 @@ use lib.ListN.{length, drop}
 use borrow.Author.Needs.{needs}
 use Rattle.laws.proofs.Lists.{rest-is}
 use Rattle.jobs.specs.Limits.{maxJobs}
-use Rattle.jobs.specs.Records.{recordCheck}
+use Rattle.jobs.specs.Checks.{recordCheck}
 use Rattle.jobs.proofs.Accepted.{record-fine}
 use Rattle.table.specs.Rows.{maxColumns, lineOf}
 use Rattle.table.specs.Tables.{jobOf}
