@@ -14,8 +14,7 @@ use Rattle.jobs.specs.declared.refusal.Check.the-variants.{Passed}
 use Rattle.jobs.specs.Records.{isNext, inLimits, recordCheck}
 use Rattle.jobs.specs.Checks.{recordsCheck, checkOf}
 use Rattle.jobs.specs.Jobs.{jobAt}
-use Rattle.theory.specs.Table.{joined}
-use Rattle.theory.specs.Releases.{effectiveEarliest, effectiveLatest, tableOf}
+use Rattle.theory.specs.Table.{joined, effectiveEarliest, effectiveLatest, tableOf}
 use Rattle.theory.specs.Interference.{openBlock, largestBlock, chains, interference}
 use Rattle.theory.specs.Bounds.{ertRule, interferenceAt, ert, demand, lowest, counted, pairBound, largestPair, cjaWith, cja, boundAt}
 use Rattle.theory.specs.Rounds.{itrStart, overlap, round, sameBounds, settle, roundLimit, itr}

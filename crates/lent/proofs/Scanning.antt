@@ -11,8 +11,7 @@ use borrow.Author.Tests.{leb-true, leb-false, le-leb, lt-ltb, eq-eqb, ne-eqb}
 use Rattle.laws.proofs.Tests.{by-test, by-equal, same-test, and-left, and-right, and-both}
 use Rattle.jobs.specs.declared.job.Job.{Job}
 use Rattle.jobs.specs.Jobs.{jobAt}
-use Rattle.theory.specs.Table.{Table, joined}
-use Rattle.theory.specs.Releases.{effectiveEarliest, given, tableOf}
+use Rattle.theory.specs.Table.{Table, joined, effectiveEarliest, given, tableOf}
 use Rattle.theory.proofs.Rules.{first-after}
 use Rattle.theory.proofs.Releases.{release-first, release-next}
 use Rattle.machine.specs.declared.state.State.{State}

@@ -4,7 +4,7 @@
 -- Assumes nothing.
 use Rattle.laws.specs.Words.{ℕ, zero, suc, _-_, Bool, false, List, leb}
 use Rattle.jobs.specs.declared.job.Job.{Job}
-use Rattle.theory.specs.Releases.{tableOf}
+use Rattle.theory.specs.Table.{tableOf}
 use Rattle.machine.specs.declared.state.State.{State}
 use Rattle.machine.specs.declared.pick.Best.{Best}
 use Rattle.lent.specs.declared.scan.Scan.{Scan}

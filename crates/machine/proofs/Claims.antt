@@ -12,8 +12,7 @@ use Rattle.laws.proofs.Tabulate.{getD-tabulate}
 use Rattle.jobs.specs.declared.job.Job.{Job}
 use Rattle.jobs.specs.declared.refusal.Check.the-variants.{Passed}
 use Rattle.jobs.specs.Limits.{maxJobs}
-use Rattle.theory.specs.Table.{Table}
-use Rattle.theory.specs.Releases.{tableOf}
+use Rattle.theory.specs.Table.{Table, tableOf}
 use Rattle.theory.specs.Bounds.{boundAt}
 use Rattle.theory.specs.Rounds.{itr}
 use Rattle.theory.specs.Runs.{Entry, idle, runs, names, Complete}

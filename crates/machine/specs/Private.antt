@@ -15,8 +15,7 @@ use Rattle.laws.specs.Words.{ℕ, zero, suc, _+_, _-_, _≤_, _<_, max, min, _�
 use Rattle.jobs.specs.declared.job.Job.{Job}
 use Rattle.jobs.specs.declared.refusal.Check.the-variants.{Passed}
 use Rattle.jobs.specs.Limits.{maxJobs, maxTime}
-use Rattle.theory.specs.Table.{Table}
-use Rattle.theory.specs.Releases.{tableOf}
+use Rattle.theory.specs.Table.{Table, tableOf}
 use Rattle.machine.specs.declared.state.State.{State}
 use Rattle.machine.specs.declared.columns.Columns.{Columns}
 use Rattle.machine.specs.declared.trace.Span.{Span}

@@ -10,8 +10,7 @@ use Rattle.jobs.specs.declared.refusal.Refusal.the-variants.{ImpossibleState}
 use Rattle.jobs.specs.declared.refusal.Check.{Check}
 use Rattle.jobs.specs.declared.refusal.Check.the-variants.{Passed, Refused}
 use Rattle.jobs.specs.Refusals.{unless, andThen}
-use Rattle.theory.specs.Table.{Table}
-use Rattle.theory.specs.Releases.{tableOf}
+use Rattle.theory.specs.Table.{Table, tableOf}
 use Rattle.machine.specs.declared.state.State.{State}
 use Rattle.machine.specs.declared.step.Ticked.the-variants.{Refused as RefusedTick}
 use Rattle.machine.specs.declared.step.Stepped.{Stepped}

@@ -10,8 +10,7 @@ use Rattle.jobs.specs.declared.refusal.Check.{Check}
 use Rattle.jobs.specs.declared.refusal.Check.the-variants.{Passed}
 use Rattle.jobs.specs.Refusals.{unless, andThen}
 use Rattle.jobs.specs.Checks.{checkOf}
-use Rattle.theory.specs.Table.{Table}
-use Rattle.theory.specs.Releases.{tableOf}
+use Rattle.theory.specs.Table.{Table, tableOf}
 
 -- From its least to its most.
 unfoldable pub inRange : Table → List ℕ → ℕ → Bool

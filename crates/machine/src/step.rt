@@ -2,7 +2,7 @@
 ghost use Rattle.laws.specs.Words.{_≡_, [], _<_, _≤_, length, everyBelow};
 ghost use Rattle.jobs.specs.Limits.{maxJobs};
 ghost use Rattle.jobs.specs.Jobs.{jobsOf};
-ghost use Rattle.theory.specs.Releases.{tableOf};
+ghost use Rattle.theory.specs.Table.{tableOf};
 ghost use Rattle.machine.specs.Steps.{possible, stateCheck, stepOf};
 ghost use Rattle.machine.specs.Ticks.{tickOf};
 ghost use Rattle.machine.specs.Private.{seen, stateOf, Prepared};

@@ -2,7 +2,7 @@
 ghost use Rattle.laws.specs.Words.{_≡_, _≤_, _*_, length, sumBelow};
 ghost use Rattle.jobs.specs.Limits.{maxJobs};
 ghost use Rattle.jobs.specs.Jobs.{jobsOf};
-ghost use Rattle.theory.specs.Releases.{tableOf};
+ghost use Rattle.theory.specs.Table.{tableOf};
 ghost use Rattle.machine.specs.Times.{timesFit, machineCheck};
 ghost use Rattle.machine.specs.Private.{Brief, sumOf};
 use jobs::check::check;

@@ -8,7 +8,7 @@ use denote.Ref.{now}
 use Rattle.jobs.specs.Limits.{maxJobs}
 use Rattle.jobs.specs.Jobs.{jobsOf}
 use Rattle.jobs.proofs.Sets.{length-jobs}
-use Rattle.theory.specs.Releases.{tableOf}
+use Rattle.theory.specs.Table.{tableOf}
 use Rattle.machine.proofs.Ticking.{passed-early, passed-within, prepared-few, prepared-times, advance-none, advance-room, advance-inside, advance-work, advance-ran, advance-all, tick-finished, tick-idle}
 use Rattle.machine.proofs.step.advance.Statement.{statement}
 use Rattle.machine.proofs.step.advance.Tie as tie
