@@ -16,9 +16,9 @@ use Rattle.theory.proofs.Rules.{first-after}
 use Rattle.theory.proofs.Releases.{release-first, release-next}
 use Rattle.machine.specs.declared.state.State.{State}
 use Rattle.lent.specs.declared.scan.Scan.{Scan}
-use Rattle.machine.specs.Ready.{predecessorComplete, ready}
-use Rattle.machine.specs.Pick.{pickUpTo}
-use Rattle.machine.specs.Best.{bestOf, better, considered}
+use Rattle.machine.specs.States.{predecessorComplete, ready}
+use Rattle.machine.specs.Pick.{pickUpTo, bestOf, better}
+use Rattle.machine.specs.Private.{considered}
 use Rattle.lent.specs.Scans.{scanOf}
 use Rattle.lent.specs.Private.{follows, releasedBy, sinceBy, kept, readyBy, lookedAt}
 use Rattle.machine.proofs.Picks.{considered-next}

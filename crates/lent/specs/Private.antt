@@ -10,8 +10,8 @@ use Rattle.laws.specs.Words.{ℕ, _-_, min, Bool, true, cond, not, _&&_, List, 
 use Rattle.jobs.specs.declared.job.Job.{Job}
 use Rattle.machine.specs.declared.state.State.{State}
 use Rattle.machine.specs.declared.pick.Best.{Best}
-use Rattle.machine.specs.Ready.{complete}
-use Rattle.machine.specs.Best.{better}
+use Rattle.machine.specs.States.{complete}
+use Rattle.machine.specs.Pick.{better}
 use Rattle.lent.specs.declared.scan.Scan.{Scan}
 use Rattle.lent.specs.Scans.{bestScan}
 

@@ -8,9 +8,8 @@ use Rattle.theory.specs.Table.{tableOf}
 use Rattle.machine.specs.declared.state.State.{State}
 use Rattle.machine.specs.declared.pick.Best.{Best}
 use Rattle.lent.specs.declared.scan.Scan.{Scan}
-use Rattle.machine.specs.Ready.{complete}
-use Rattle.machine.specs.Pick.{pickUpTo}
-use Rattle.machine.specs.Best.{bestOf}
+use Rattle.machine.specs.States.{complete}
+use Rattle.machine.specs.Pick.{pickUpTo, bestOf}
 
 -- The most urgent ready job and, of the last record, its chain, its least time, whether it is complete, and whether and for how long it is released.
 abbrev pub bestScan : Best → ℕ → ℕ → Bool → Bool → ℕ → Scan

@@ -1,6 +1,6 @@
 // The scan over lent job records, which changes none.
 ghost use Rattle.laws.specs.Words.{_≡_, length, getD, cond};
-ghost use Rattle.machine.specs.Best.{better};
+ghost use Rattle.machine.specs.Pick.{better};
 ghost use Rattle.lent.specs.Scans.{scanOf};
 ghost use Rattle.lent.specs.Private.{follows, releasedBy, sinceBy, kept, readyBy, lookedAt};
 use jobs::job::Job;

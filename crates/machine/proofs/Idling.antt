@@ -12,8 +12,7 @@ use lib.Dec.{leb}
 use borrow.Author.Tests.{leb-true, le-leb, lt-ltb, le-ltb}
 use Rattle.laws.proofs.Tests.{by-test, by-order, by-last, same-test}
 use Rattle.theory.specs.Table.{Table}
-use Rattle.machine.specs.States.{lastTime}
-use Rattle.machine.specs.Ready.{complete, predecessorComplete, ready}
+use Rattle.machine.specs.States.{lastTime, complete, predecessorComplete, ready}
 use Rattle.machine.specs.Pick.{preferred, pickUpTo}
 use Rattle.machine.specs.Private.{stateOf, sooner, nextRelease, nextTime}
 
