@@ -12,7 +12,7 @@ use Rattle.theory.specs.Table.{Table}
 use Rattle.theory.specs.Runs.{Entry, idle, runs}
 use Rattle.machine.specs.declared.trace.Span.{Span}
 use Rattle.machine.specs.Runs.{entry}
-use Rattle.machine.proofs.Spans.{goesOn, extended}
+use Rattle.machine.proofs.Spans.{extended}
 use Rattle.machine.specs.Traces.{noted, spans}
 use Rattle.machine.specs.Claims.{spanEntry}
 

@@ -9,12 +9,11 @@ use mathlib.Core.List.{List, [], _∷_, _++_, append-assoc}
 use native.Mathlib.Omega.{arith}
 use native.Mathlib.Numerals.{add-one}
 use native.Mathlib.Nat.{add-zero, add-suc, zero-add}
-use lib.Dec.{eqb}
 use lib.ListN.{length, set, drop, length-append}
 use lib.Seq.{take-at, drop-append-add}
-use borrow.Author.Tests.{lt-ltb, lt-leb, le-leb, eqb-true}
+use borrow.Author.Tests.{lt-ltb, lt-leb, le-leb}
 use Rattle.laws.specs.Words.{patched}
-use Rattle.laws.proofs.Tests.{by-test, and-left}
+use Rattle.laws.proofs.Tests.{by-test}
 use Rattle.laws.proofs.Buffers.{patched-more, length-patched}
 use Rattle.jobs.specs.declared.job.Job.{Job}
 use Rattle.jobs.specs.declared.refusal.Refusal.{Refusal}

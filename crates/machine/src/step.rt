@@ -102,15 +102,8 @@ fn advance(state: State, set: JobSet, columns: Columns, times: &[u64]) -> Steppe
     let priority = columns.priority;
     let release = columns.release;
     let work = state.work;
-    let best = best_of(
-        set.count,
-        &chain,
-        &priority,
-        &release,
-        times,
-        &work,
-        state.time,
-    );
+    let time = state.time;
+    let best = best_of(set.count, &chain, &priority, &release, times, &work, time);
     if best.found {
         let at = best.at;
         let mut next = state;
