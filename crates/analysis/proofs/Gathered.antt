@@ -12,8 +12,7 @@ use Rattle.laws.proofs.Filling.{filled-none, filled-next, filled-at}
 use Rattle.jobs.specs.declared.job.Job.{Job}
 use Rattle.jobs.specs.Limits.{maxJobs}
 use Rattle.jobs.specs.Jobs.{jobAt}
-use Rattle.theory.specs.Table.{Table}
-use Rattle.theory.specs.Releases.{effectiveEarliest, effectiveLatest, given, tableOf}
+use Rattle.theory.specs.Table.{Table, effectiveEarliest, effectiveLatest, given, tableOf}
 use Rattle.theory.proofs.WellFormed.{Ordered, chain-le}
 use Rattle.analysis.specs.declared.columns.Columns.{Columns}
 use Rattle.analysis.specs.Kernel.{notBefore, columnsOf, Ended}

@@ -4,8 +4,7 @@ use mathlib.Core.Path.{_≡_}
 use native.Mathlib.Omega.{arith}
 use lib.Dec.{eqb}
 use Rattle.laws.proofs.Tests.{by-test}
-use Rattle.theory.specs.Table.{Table, joined}
-use Rattle.theory.specs.Releases.{effectiveEarliest}
+use Rattle.theory.specs.Table.{Table, joined, effectiveEarliest}
 use Rattle.theory.specs.Bounds.{ertRule}
 use Rattle.analysis.specs.Kernel.{notBefore}
 use Rattle.analysis.proofs.Prior.{prior}

@@ -19,7 +19,7 @@ use Rattle.jobs.specs.Limits.{maxJobs, maxDeadline}
 use Rattle.jobs.specs.Checks.{checkOf}
 use Rattle.jobs.specs.Jobs.{jobAt}
 use Rattle.jobs.proofs.Accepted.{accepted}
-use Rattle.theory.specs.Releases.{tableOf}
+use Rattle.theory.specs.Table.{tableOf}
 use Rattle.theory.specs.Bounds.{boundAt, boundLimit}
 use Rattle.theory.specs.Rounds.{itr}
 use Rattle.theory.specs.Verdicts.{slack, slacks}

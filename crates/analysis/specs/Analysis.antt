@@ -18,8 +18,7 @@ use Rattle.jobs.specs.Limits.{maxJobs}
 use Rattle.jobs.specs.Jobs.{jobsOf, setOf}
 use Rattle.jobs.specs.Checks.{checkOf}
 use Rattle.jobs.specs.Joins.{withChain, joinCheck}
-use Rattle.theory.specs.Table.{Table}
-use Rattle.theory.specs.Releases.{tableOf}
+use Rattle.theory.specs.Table.{Table, tableOf}
 use Rattle.theory.specs.Bounds.{ert, cja}
 use Rattle.theory.specs.Rounds.{Answer, roundLimit, itr}
 use Rattle.theory.specs.Verdicts.{slacks, meets}

@@ -3,7 +3,7 @@ ghost use Rattle.laws.specs.Words.{_≡_, cond, _≤_, eqb};
 ghost use Rattle.jobs.specs.declared.refusal.Check.{Check};
 ghost use Rattle.jobs.specs.Jobs.{jobsOf};
 ghost use Rattle.jobs.specs.Checks.{checkOf};
-ghost use Rattle.theory.specs.Releases.{tableOf};
+ghost use Rattle.theory.specs.Table.{tableOf};
 ghost use Rattle.analysis.specs.Kernel.{columnsOf, Ended};
 use crate::number::larger;
 use crate::predecessor::not_before;

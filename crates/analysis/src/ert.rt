@@ -3,7 +3,7 @@ ghost use Rattle.laws.specs.Words.{_≡_, padded};
 ghost use Rattle.jobs.specs.Limits.{maxJobs};
 ghost use Rattle.jobs.specs.Jobs.{jobsOf};
 ghost use Rattle.jobs.specs.Checks.{checkOf};
-ghost use Rattle.theory.specs.Releases.{tableOf};
+ghost use Rattle.theory.specs.Table.{tableOf};
 ghost use Rattle.theory.specs.Bounds.{ert as Theory·ert};
 ghost use Rattle.analysis.specs.Analysis.{ertOf};
 ghost use Rattle.analysis.specs.Kernel.{lent, Fit, Ended};

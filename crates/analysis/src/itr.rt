@@ -3,7 +3,7 @@ ghost use Rattle.laws.specs.Words.{_≡_, _≤_, padded};
 ghost use Rattle.jobs.specs.Limits.{maxJobs};
 ghost use Rattle.jobs.specs.Jobs.{jobsOf};
 ghost use Rattle.jobs.specs.Checks.{checkOf};
-ghost use Rattle.theory.specs.Releases.{tableOf};
+ghost use Rattle.theory.specs.Table.{tableOf};
 ghost use Rattle.theory.specs.Rounds.{itrStart, sameBounds, itr as Theory·itr};
 ghost use Rattle.analysis.specs.Analysis.{itrWith, itrOf};
 ghost use Rattle.analysis.specs.Kernel.{lent, Fit, Ended};

@@ -3,7 +3,7 @@ ghost use Rattle.laws.specs.Words.{_≡_, _≤_, pos, padded};
 ghost use Rattle.jobs.specs.Limits.{maxJobs, maxDeadline};
 ghost use Rattle.jobs.specs.Jobs.{jobsOf};
 ghost use Rattle.jobs.specs.Checks.{checkOf};
-ghost use Rattle.theory.specs.Releases.{tableOf};
+ghost use Rattle.theory.specs.Table.{tableOf};
 ghost use Rattle.theory.specs.Bounds.{boundLimit};
 ghost use Rattle.theory.specs.Rounds.{itr as Theory·itr};
 ghost use Rattle.theory.specs.Verdicts.{slack as Theory·slack, slacks as Theory·slacks};

@@ -6,7 +6,7 @@ use Rattle.jobs.specs.declared.refusal.Check.the-variants.{Passed, Refused as S
 use Rattle.jobs.specs.Refusals.{numberOf}
 use Rattle.jobs.specs.Jobs.{jobsOf}
 use Rattle.table.specs.Tables.{readingOf}
-use Rattle.theory.specs.Releases.{tableOf}
+use Rattle.theory.specs.Table.{tableOf}
 use Rattle.theory.specs.Rounds.{itr}
 use Rattle.analysis.specs.declared.answer.Verdict.{Verdict}
 use Rattle.analysis.specs.declared.answer.Verdict.the-variants.{Yes, No, Refused}

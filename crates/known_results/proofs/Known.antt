@@ -13,20 +13,18 @@ use Rattle.jobs.specs.declared.job.Job.{Job}
 use Rattle.jobs.specs.declared.refusal.Check.the-variants.{Passed}
 use Rattle.jobs.specs.Checks.{isNext, inLimits, recordCheck, recordsCheck, checkOf}
 use Rattle.jobs.specs.Jobs.{jobAt}
-use Rattle.theory.specs.Table.{joined}
-use Rattle.theory.specs.Releases.{effectiveEarliest, effectiveLatest, tableOf}
+use Rattle.theory.specs.Table.{joined, effectiveEarliest, effectiveLatest, tableOf}
 use Rattle.theory.specs.Interference.{openBlock, largestBlock, chains, interference}
 use Rattle.theory.specs.Bounds.{ertRule, interferenceAt, ert, demand, lowest, counted, pairBound, largestPair, cjaWith, cja, boundAt}
 use Rattle.theory.specs.Rounds.{itrStart, overlap, round, sameBounds, settle, roundLimit, itr}
 use Rattle.theory.specs.Verdicts.{slack, slacks, meets}
 use Rattle.theory.specs.Claims.{Demand3}
 use Rattle.theory.proofs.Claims.{demand-3}
-use Rattle.machine.specs.States.{lastTime}
+use Rattle.machine.specs.States.{lastTime, complete, predecessorComplete, ready, allComplete}
 use Rattle.machine.specs.Times.{inRange, timesFit, machineCheck}
-use Rattle.machine.specs.Ready.{complete, predecessorComplete, ready}
 use Rattle.machine.specs.Pick.{outranks, goesFirst, pickUpTo, pick}
-use Rattle.machine.specs.Ticks.{allComplete, next}
-use Rattle.machine.specs.Traces.{goesOn, extended, rows}
+use Rattle.machine.specs.Steps.{next}
+use Rattle.machine.specs.Traces.{noted, rows}
 use Rattle.machine.proofs.Forward.{Carried, onward, carried, run-carried, trace-carried}
 use Rattle.known_results.specs.Cases.{answersOf, KnownRun, runWith, Case, byDefinition, minus, p1, p2, p3, p4With3, p4, p5, p6With4, p6With6, p6, p7, p8, cases}
 
@@ -73,7 +71,7 @@ first-and-rest : {A : Type 0} {x y : A} {xs ys : List A} → x ≡ y → xs ≡ 
 first-and-rest e f = rw (e, f)
 
 pub known-results : map byDefinition cases ≡ cases
-unfolding tabulate sumBelow greatest lastOf isNext inLimits recordCheck recordsCheck checkOf joined effectiveEarliest effectiveLatest openBlock largestBlock chains interference ertRule interferenceAt ert demand lowest counted pairBound largestPair cjaWith cja itrStart overlap round sameBounds settle roundLimit itr slacks meets everyBelow inRange timesFit machineCheck complete predecessorComplete ready outranks goesFirst pickUpTo pick next goesOn extended rows onward carried
+unfolding tabulate sumBelow greatest lastOf isNext inLimits recordCheck recordsCheck checkOf joined effectiveEarliest effectiveLatest openBlock largestBlock chains interference ertRule interferenceAt ert demand lowest counted pairBound largestPair cjaWith cja itrStart overlap round sameBounds settle roundLimit itr slacks meets everyBelow inRange timesFit machineCheck complete predecessorComplete ready outranks goesFirst pickUpTo pick next noted rows onward carried
 known-results =
     first-and-rest (answered p1 (figures p1 refl refl refl refl refl refl refl refl refl) (first-and-rest (settled-run (p1 .jobs) p2 refl (omega arith) refl refl) (first-and-rest (settled-run (p1 .jobs) p3 refl (omega arith) refl refl) refl)))
     (first-and-rest (answered (p4 12 (pos 0) true) (figures (p4 12 (pos 0) true) refl refl refl refl refl refl refl refl refl) (first-and-rest (settled-run (p4 12 (pos 0) true .jobs) p4With3 refl (omega arith) refl refl) refl))

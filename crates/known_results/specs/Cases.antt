@@ -5,7 +5,7 @@ use Rattle.jobs.specs.declared.job.Job.{Job}
 use Rattle.jobs.specs.declared.refusal.Check.{Check}
 use Rattle.jobs.specs.declared.refusal.Check.the-variants.{Passed}
 use Rattle.jobs.specs.Checks.{checkOf}
-use Rattle.theory.specs.Releases.{tableOf}
+use Rattle.theory.specs.Table.{tableOf}
 use Rattle.theory.specs.Bounds.{interferenceAt, ert, cja}
 use Rattle.theory.specs.Rounds.{itr}
 use Rattle.theory.specs.Verdicts.{slacks, meets}

@@ -11,17 +11,15 @@ use borrow.Author.Tests.{leb-true, leb-false, le-leb, lt-ltb, eq-eqb, ne-eqb}
 use Rattle.laws.proofs.Tests.{by-test, by-equal, same-test, and-left, and-right, and-both}
 use Rattle.jobs.specs.declared.job.Job.{Job}
 use Rattle.jobs.specs.Jobs.{jobAt}
-use Rattle.theory.specs.Table.{Table, joined}
-use Rattle.theory.specs.Releases.{effectiveEarliest, given, tableOf}
+use Rattle.theory.specs.Table.{Table, joined, effectiveEarliest, given, tableOf}
 use Rattle.theory.proofs.Rules.{first-after}
 use Rattle.theory.proofs.Releases.{release-first, release-next}
 use Rattle.machine.specs.declared.state.State.{State}
 use Rattle.lent.specs.declared.scan.Scan.{Scan}
-use Rattle.machine.specs.Ready.{predecessorComplete, ready}
-use Rattle.machine.specs.Pick.{pickUpTo}
-use Rattle.machine.specs.Best.{bestOf, better, considered}
-use Rattle.lent.specs.Scans.{scanOf}
-use Rattle.lent.specs.Private.{follows, releasedBy, sinceBy, kept, readyBy, lookedAt}
+use Rattle.machine.specs.States.{predecessorComplete, ready}
+use Rattle.machine.specs.Pick.{pickUpTo, bestOf}
+use Rattle.machine.specs.Private.{considered}
+use Rattle.lent.specs.Scans.{scanOf, follows, releasedBy, sinceBy, readyBy, bestBy, lookedAt}
 use Rattle.machine.proofs.Picks.{considered-next}
 
 -- a released record
@@ -118,23 +116,21 @@ module _ (js : List Job) (times : List ℕ) (s : State) where
     unfolding readyBy ready predecessorComplete
     next-ready = rw (next-released, next-follows) (unfold scanOf in refl)
 
-  kept-is : (u : ℕ) → kept (scanOf js times s u) ≡ bestOf t (pickUpTo t times s u)
+  best-is : (u : ℕ) → scanOf js times s u .best ≡ bestOf t (pickUpTo t times s u)
   unfolding scanOf
-  kept-is zero = unfold pickUpTo in refl
-  kept-is (suc v) = refl
+  best-is zero = unfold pickUpTo in refl
+  best-is (suc v) = refl
 
-  best-next : (u : ℕ) (b : Bool) → b ≡ ready t times s u
-      → cond b (better (kept (scanOf js times s u)) u (jobAt js u .priority) (jobAt js u .chain)) (kept (scanOf js times s u)) ≡ bestOf t (pickUpTo t times s (suc u))
-  unfolding considered
-  best-next u b e = rw (e, kept-is u, ← add-one u) (considered-next t times s (bestOf t (pickUpTo t times s u)) u refl)
+  best-next : (u : ℕ) → readyBy (scanOf js times s u) (jobAt js u) u times s ≡ ready t times s u
+      → bestBy (scanOf js times s u) (jobAt js u) u times s ≡ bestOf t (pickUpTo t times s (suc u))
+  unfolding bestBy considered
+  best-next u e = rw (e, best-is u, ← add-one u) (considered-next t times s (bestOf t (pickUpTo t times s u)) u refl)
 
   looked : (u : ℕ) → releasedBy (scanOf js times s u) (jobAt js u) u (s .time) ≡ leb (t .earliest u) (s .time)
       → sinceBy (scanOf js times s u) (jobAt js u) u (s .time) ≡ s .time - t .earliest u
       → readyBy (scanOf js times s u) (jobAt js u) u times s ≡ ready t times s u
       → lookedAt (scanOf js times s u) (jobAt js u) u times s ≡ scanOf js times s (suc u)
-  looked u r a b =
-      let best = best-next u (readyBy (scanOf js times s u) (jobAt js u) u times s) b in
-      unfold lookedAt in rw (best, r, a) (unfold scanOf in refl)
+  looked u r a b = unfold lookedAt in rw (best-next u b, r, a) (unfold scanOf in refl)
 
   pub looked-next : (u : ℕ) → lookedAt (scanOf js times s u) (jobAt js u) u times s ≡ scanOf js times s (suc u)
   looked-next zero = looked 0 first-released first-since first-ready

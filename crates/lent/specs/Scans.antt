@@ -1,35 +1,60 @@
 -- The scan over lent job records. Document 01, "The scan that picks the next job goes over the lent job records and changes none".
---   bestScan   a scan by its pick and by what it knows of the last record
---   scanOf     what a scan of the first n records knows
--- Assumes nothing.
-use Rattle.laws.specs.Words.{ℕ, zero, suc, _-_, Bool, false, List, leb}
+-- From `follows` on, definitions that only the contracts of private functions use. Assumes nothing.
+use Rattle.laws.specs.Words.{ℕ, zero, suc, _-_, min, Bool, true, false, cond, not, _&&_, List, leb, ltb, eqb}
 use Rattle.jobs.specs.declared.job.Job.{Job}
-use Rattle.theory.specs.Releases.{tableOf}
+use Rattle.theory.specs.Table.{tableOf}
+use Rattle.theory.specs.Runs.{idle}
 use Rattle.machine.specs.declared.state.State.{State}
 use Rattle.machine.specs.declared.pick.Best.{Best}
 use Rattle.lent.specs.declared.scan.Scan.{Scan}
-use Rattle.machine.specs.Ready.{complete}
-use Rattle.machine.specs.Pick.{pickUpTo}
-use Rattle.machine.specs.Best.{bestOf}
+use Rattle.machine.specs.States.{complete}
+use Rattle.machine.specs.Pick.{pickUpTo, bestOf, better}
 
--- The most urgent ready job and, of the last record, its chain, its least time, whether it is complete, and whether and for how long it is released.
-abbrev pub bestScan : Best → ℕ → ℕ → Bool → Bool → ℕ → Scan
-bestScan best last least done released since =
-    record {
-      found = best .found;
-      at = best .at;
-      priority = best .priority;
-      chain = best .chain;
-      last = last;
-      least = least;
-      done = done;
-      released = released;
-      since = since;
-    }
-
--- The pick is that of the definition that a step uses; a job that is not released counts 0 ticks since its release.
+-- What a scan of the first n records knows: the pick of a step, and of the last record its figures; a job that is not released counts 0 ticks since then.
 unfoldable pub scanOf : List Job → List ℕ → State → ℕ → Scan
-scanOf js times s zero = bestScan (record { found = false; at = 0; priority = 0; chain = 0 }) 0 0 false false 0
+scanOf js times s zero = record { best = bestOf (tableOf js) idle; last = 0; least = 0; done = false; released = false; since = 0 }
 scanOf js times s (suc u) =
     let t = tableOf js in
-    bestScan (bestOf t (pickUpTo t times s (suc u))) (t .chain u) (t .least u) (complete times (s .work) u) (leb (t .earliest u) (s .time)) (s .time - t .earliest u)
+    record {
+      best = bestOf t (pickUpTo t times s (suc u));
+      last = t .chain u;
+      least = t .least u;
+      done = complete times (s .work) u;
+      released = leb (t .earliest u) (s .time);
+      since = s .time - t .earliest u;
+    }
+
+-- A record is of the chain of the one before it.
+unfoldable pub follows : Scan → Job → ℕ → Bool
+follows scan j u = ltb 0 u && eqb (scan .last) (j .chain)
+
+-- Its effective release is at most the time.
+unfoldable pub releasedBy : Scan → Job → ℕ → ℕ → Bool
+releasedBy scan j u time =
+    cond (follows scan j u) (leb (j .release) time && (scan .released && leb (scan .least) (scan .since))) (leb (j .release) time)
+
+-- The ticks since its effective release, 0 where it is not released.
+unfoldable pub sinceBy : Scan → Job → ℕ → ℕ → ℕ
+sinceBy scan j u time =
+    cond (releasedBy scan j u time) (cond (follows scan j u) (min (time - j .release) (scan .since - scan .least)) (time - j .release)) 0
+
+-- It is ready.
+unfoldable pub readyBy : Scan → Job → ℕ → List ℕ → State → Bool
+readyBy scan j u times s =
+    releasedBy scan j u (s .time) && not (complete times (s .work) u) && cond (follows scan j u) (scan .done) true
+
+-- The best after it.
+unfoldable pub bestBy : Scan → Job → ℕ → List ℕ → State → Best
+bestBy scan j u times s = cond (readyBy scan j u times s) (better (scan .best) u (j .priority) (j .chain)) (scan .best)
+
+-- The scan after it.
+unfoldable pub lookedAt : Scan → Job → ℕ → List ℕ → State → Scan
+lookedAt scan j u times s =
+    record {
+      best = bestBy scan j u times s;
+      last = j .chain;
+      least = j .least;
+      done = complete times (s .work) u;
+      released = releasedBy scan j u (s .time);
+      since = sinceBy scan j u (s .time);
+    }

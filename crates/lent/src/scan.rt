@@ -1,20 +1,14 @@
 // The scan over lent job records, which changes none.
-ghost use Rattle.laws.specs.Words.{_≡_, length, getD, cond};
-ghost use Rattle.machine.specs.Best.{better};
-ghost use Rattle.lent.specs.Scans.{scanOf};
-ghost use Rattle.lent.specs.Private.{follows, releasedBy, sinceBy, kept, readyBy, lookedAt};
+ghost use Rattle.laws.specs.Words.{_≡_, length, getD};
+ghost use Rattle.lent.specs.Scans.{scanOf, follows, releasedBy, sinceBy, readyBy, bestBy, lookedAt};
 use jobs::job::Job;
 use machine::pick::Best;
 use machine::pick::better_of;
 use machine::state::State;
 
-// What a scan knows: the most urgent ready job so far, and of the last record its chain, its least time, whether it is complete, and whether and for how
-// long it is released.
+// What a scan knows: the most urgent ready job so far and, of the last record, chain, least time, whether it is complete, and whether and how long released.
 pub struct Scan {
-    pub found: bool,
-    pub at: usize,
-    pub priority: u64,
-    pub chain: u64,
+    pub best: Best,
     pub last: u64,
     pub least: u64,
     pub done: bool,
@@ -83,18 +77,12 @@ fn is_ready_record(scan: Scan, job: Job, at: usize, times: &[u64], state: State)
 
 // The best of a scan after one more record.
 fn best_after(scan: Scan, job: Job, at: usize, times: &[u64], state: State) -> Best
-    ensures { λ r. ⌜ r ≡ cond (readyBy scan job at (now (times .entry)) state) (better (kept scan) at (job .priority) (job .chain)) (kept scan) ⌝ }
+    ensures { λ r. ⌜ r ≡ bestBy scan job at (now (times .entry)) state ⌝ }
 {
-    let best = Best {
-        found: scan.found,
-        at: scan.at,
-        priority: scan.priority,
-        chain: scan.chain,
-    };
     if is_ready_record(scan, job, at, times, state) {
-        return better_of(best, at, job.priority, job.chain);
+        return better_of(scan.best, at, job.priority, job.chain);
     }
-    best
+    scan.best
 }
 
 // One record is looked at.
@@ -107,10 +95,7 @@ fn look_at(scan: Scan, job: Job, at: usize, times: &[u64], state: State) -> Scan
     let released = is_released(scan, job, at, state.time);
     let since = since_release(scan, job, at, state.time);
     Scan {
-        found: best.found,
-        at: best.at,
-        priority: best.priority,
-        chain: best.chain,
+        best,
         last: job.chain,
         least: job.least,
         done,
@@ -124,10 +109,12 @@ pub fn most_urgent(jobs: &[Job], times: &[u64], state: State) -> Scan
     ensures { λ r. ⌜ r ≡ scanOf (now (jobs .entry)) (now (times .entry)) state (length (now (jobs .entry))) ⌝ }
 {
     let mut scan = Scan {
-        found: false,
-        at: 0,
-        priority: 0,
-        chain: 0,
+        best: Best {
+            found: false,
+            at: 0,
+            priority: 0,
+            chain: 0,
+        },
         last: 0,
         least: 0,
         done: false,

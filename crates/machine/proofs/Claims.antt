@@ -12,8 +12,7 @@ use Rattle.laws.proofs.Tabulate.{getD-tabulate}
 use Rattle.jobs.specs.declared.job.Job.{Job}
 use Rattle.jobs.specs.declared.refusal.Check.the-variants.{Passed}
 use Rattle.jobs.specs.Limits.{maxJobs}
-use Rattle.theory.specs.Table.{Table}
-use Rattle.theory.specs.Releases.{tableOf}
+use Rattle.theory.specs.Table.{Table, tableOf}
 use Rattle.theory.specs.Bounds.{boundAt}
 use Rattle.theory.specs.Rounds.{itr}
 use Rattle.theory.specs.Runs.{Entry, idle, runs, names, Complete}
@@ -24,11 +23,10 @@ use Rattle.theory.proofs.Claims.{demand-3}
 use Rattle.machine.specs.declared.state.State.{State}
 use Rattle.machine.specs.declared.step.Ticked.{Ticked}
 use Rattle.machine.specs.declared.step.Ticked.the-variants.{Finished}
-use Rattle.machine.specs.States.{lastTime}
+use Rattle.machine.specs.States.{lastTime, complete, allComplete}
 use Rattle.machine.specs.Times.{machineCheck}
-use Rattle.machine.specs.Ready.{complete}
 use Rattle.machine.specs.Pick.{pick}
-use Rattle.machine.specs.Ticks.{allComplete, ranAs, tickOf}
+use Rattle.machine.specs.Steps.{ranAs, tickOf}
 use Rattle.machine.specs.Runs.{entry, entries, completion, finish, completions}
 use Rattle.machine.specs.Claims.{EveryMachine, AllDone, Ends, FinishedWhen, Demanded, KeepsBounds, GivesBack, WithinTwice}
 use Rattle.machine.proofs.Every.{every-at, first-failing}

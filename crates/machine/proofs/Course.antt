@@ -15,9 +15,9 @@ use Rattle.jobs.specs.Limits.{maxJobs}
 use Rattle.theory.specs.Table.{Table}
 use Rattle.theory.specs.Runs.{Entry, idle, runs}
 use Rattle.machine.specs.declared.state.State.{State}
-use Rattle.machine.specs.Ready.{complete, ready}
+use Rattle.machine.specs.States.{complete, ready, allComplete}
 use Rattle.machine.specs.Pick.{pick}
-use Rattle.machine.specs.Ticks.{allComplete, moved, next}
+use Rattle.machine.specs.Steps.{moved, next}
 use Rattle.machine.specs.Runs.{after}
 use Rattle.machine.specs.Private.{sumOf}
 use Rattle.machine.proofs.Every.{every-at, first-failing}

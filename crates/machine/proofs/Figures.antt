@@ -13,8 +13,7 @@ use Rattle.jobs.specs.declared.job.Job.{Job}
 use Rattle.jobs.specs.Limits.{maxJobs, maxRelease, maxTime}
 use Rattle.jobs.specs.Jobs.{noJob, jobAt}
 use Rattle.jobs.proofs.Accepted.{Accepted}
-use Rattle.theory.specs.Table.{joined}
-use Rattle.theory.specs.Releases.{effectiveEarliest, tableOf}
+use Rattle.theory.specs.Table.{joined, effectiveEarliest, tableOf}
 use Rattle.theory.proofs.Releases.{earliest-latest}
 use Rattle.theory.proofs.AcceptedSets.{accepted-latest}
 use Rattle.machine.specs.declared.columns.Columns.{Columns}

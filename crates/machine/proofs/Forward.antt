@@ -14,15 +14,14 @@ use lib.ListN.{length, set, replicate}
 use Rattle.jobs.specs.declared.job.Job.{Job}
 use Rattle.jobs.specs.declared.refusal.Check.the-variants.{Passed}
 use Rattle.jobs.specs.Limits.{maxJobs}
-use Rattle.theory.specs.Table.{Table}
-use Rattle.theory.specs.Releases.{tableOf}
+use Rattle.theory.specs.Table.{Table, tableOf}
 use Rattle.theory.specs.Runs.{Entry, idle, runs}
 use Rattle.machine.specs.declared.state.State.{State}
 use Rattle.machine.specs.declared.trace.Span.{Span}
-use Rattle.machine.specs.States.{lastTime, start}
+use Rattle.machine.specs.States.{lastTime, start, allComplete}
 use Rattle.machine.specs.Times.{machineCheck}
 use Rattle.machine.specs.Pick.{pick}
-use Rattle.machine.specs.Ticks.{allComplete, next}
+use Rattle.machine.specs.Steps.{next}
 use Rattle.machine.specs.Runs.{after, entry, runOf}
 use Rattle.machine.specs.Traces.{noted, spans, traced}
 use Rattle.machine.proofs.Ticking.{pick-chosen}

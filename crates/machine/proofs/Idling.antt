@@ -5,16 +5,15 @@
 -- Assumes nothing.
 use Prim.Native.Nat.{ℕ, zero, suc, _+_, _≤_, _<_, min}
 use mathlib.Core.Path.{_≡_, refl, ap, _∙_}
-use mathlib.Core.Bool.{Bool, true, false, cond, not, _&&_}
+use mathlib.Core.Bool.{Bool, true, false, not, _&&_}
 use mathlib.Core.List.{List}
 use native.Mathlib.Omega.{arith}
 use lib.Dec.{leb}
 use borrow.Author.Tests.{leb-true, le-leb, lt-ltb, le-ltb}
 use Rattle.laws.proofs.Tests.{by-test, by-order, by-last, same-test}
 use Rattle.theory.specs.Table.{Table}
-use Rattle.machine.specs.States.{lastTime}
-use Rattle.machine.specs.Ready.{complete, predecessorComplete, ready}
-use Rattle.machine.specs.Pick.{preferred, pickUpTo}
+use Rattle.machine.specs.States.{lastTime, complete, predecessorComplete, ready}
+use Rattle.machine.specs.Pick.{pickUpTo}
 use Rattle.machine.specs.Private.{stateOf, sooner, nextRelease, nextTime}
 
 -- ---- the next release

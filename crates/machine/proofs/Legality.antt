@@ -15,9 +15,9 @@ use Rattle.theory.specs.Table.{Table}
 use Rattle.theory.specs.Runs.{Entry, idle, runs, names, entryAt, work, timeAt, Complete, PredecessorComplete, Ready, LegalEntry, Legal}
 use Rattle.theory.proofs.Work.{work-here, work-away}
 use Rattle.machine.specs.declared.state.State.{State}
-use Rattle.machine.specs.Ready.{complete, predecessorComplete, ready}
+use Rattle.machine.specs.States.{complete, predecessorComplete, ready, allComplete}
 use Rattle.machine.specs.Pick.{pick}
-use Rattle.machine.specs.Ticks.{allComplete, moved}
+use Rattle.machine.specs.Steps.{moved}
 use Rattle.machine.specs.Runs.{after, entry, entries}
 use Rattle.machine.proofs.Every.{every-at}
 use Rattle.machine.proofs.Readiness.{complete-eq, eq-complete, ne-complete, ready-parts, parts-ready, predecessor-first, predecessor-next, predecessor-none, worked-here, worked-other}

@@ -16,9 +16,9 @@ use Rattle.theory.specs.Table.{Table}
 use Rattle.theory.specs.Runs.{Entry, idle, runs}
 use Rattle.machine.specs.declared.state.State.{State}
 use Rattle.machine.specs.declared.pick.Best.{Best}
-use Rattle.machine.specs.Ready.{ready}
-use Rattle.machine.specs.Pick.{outranks, goesFirst, preferred, pickUpTo, pick}
-use Rattle.machine.specs.Best.{bestOf, better, considered}
+use Rattle.machine.specs.States.{ready}
+use Rattle.machine.specs.Pick.{outranks, goesFirst, preferred, pickUpTo, pick, bestOf, better}
+use Rattle.machine.specs.Private.{considered}
 use Rattle.machine.proofs.Readiness.{Alike, ready-alike}
 
 -- ---- the relation

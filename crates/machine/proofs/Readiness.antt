@@ -13,7 +13,7 @@ use borrow.Author.Tests.{leb-true, le-leb, lt-leb, eqb-true, eqb-false, eq-eqb, 
 use Rattle.laws.proofs.Tests.{and-left, and-right}
 use Rattle.theory.specs.Table.{Table, joined}
 use Rattle.machine.specs.declared.state.State.{State}
-use Rattle.machine.specs.Ready.{complete, predecessorComplete, ready}
+use Rattle.machine.specs.States.{complete, predecessorComplete, ready}
 use Rattle.machine.specs.Private.{seen}
 
 pub complete-eq : (times work : List ℕ) (u : ℕ) → complete times work u ≡ true → getD work u 0 ≡ getD times u 0

@@ -12,7 +12,8 @@ use Rattle.theory.specs.Table.{Table}
 use Rattle.theory.specs.Runs.{Entry, idle, runs}
 use Rattle.machine.specs.declared.trace.Span.{Span}
 use Rattle.machine.specs.Runs.{entry}
-use Rattle.machine.specs.Traces.{goesOn, extended, noted, spans}
+use Rattle.machine.proofs.Spans.{extended}
+use Rattle.machine.specs.Traces.{noted, spans}
 use Rattle.machine.specs.Claims.{spanEntry}
 
 abbrev UpTo : List Span → ℕ → Type 0
@@ -80,7 +81,7 @@ module _ (n : ℕ) (ran : ℕ → Entry) where
       }
 
   back-extended : (ss : List Span) (u : ℕ) → Back ss n ran → ran n ≡ runs u → Back (extended ss u n) (suc n) ran
-  unfolding extended goesOn
+  unfolding noted
   back-extended [] u b e = back-new [] u b e
   back-extended (s ∷ ss) u b e =
       by-test (eqb (s .at) u && eqb (s .to) n)
@@ -88,6 +89,7 @@ module _ (n : ℕ) (ran : ℕ → Entry) where
       (λ h. rw h (back-new (s ∷ ss) u b e))
 
   back-noted : (ss : List Span) (x : Entry) → Back ss n ran → ran n ≡ x → Back (noted ss n x) (suc n) ran
+  unfolding noted
   back-noted ss idle b e = back-idle ss b e
   back-noted ss (runs u) b e = back-extended ss u b e
 

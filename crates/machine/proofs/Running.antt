@@ -23,21 +23,19 @@ use Rattle.jobs.specs.declared.refusal.Check.the-variants.{Passed, Refused}
 use Rattle.jobs.specs.Limits.{maxJobs, maxRelease, maxTime}
 use Rattle.jobs.specs.Jobs.{jobsOf}
 use Rattle.jobs.proofs.Sets.{length-jobs}
-use Rattle.theory.specs.Table.{Table}
-use Rattle.theory.specs.Releases.{tableOf}
+use Rattle.theory.specs.Table.{Table, tableOf}
 use Rattle.theory.specs.Runs.{Entry, idle, runs, names}
 use Rattle.theory.proofs.Releases.{earliest-latest}
 use Rattle.theory.proofs.AcceptedSets.{accepted-latest}
 use Rattle.machine.specs.declared.columns.Columns.{Columns}
 use Rattle.machine.specs.declared.pick.Best.{Best}
 use Rattle.machine.specs.declared.run.Completed.{Completed}
-use Rattle.machine.specs.States.{lastTime}
+use Rattle.machine.specs.States.{lastTime, allComplete}
 use Rattle.machine.specs.Times.{machineCheck}
-use Rattle.machine.specs.Pick.{pickUpTo, pick}
-use Rattle.machine.specs.Ticks.{allComplete, moved}
+use Rattle.machine.specs.Pick.{pickUpTo, pick, bestOf}
+use Rattle.machine.specs.Steps.{moved}
 use Rattle.machine.specs.Runs.{after, entry, completion, finish, completions, runOf}
 use Rattle.machine.specs.Private.{seen, stateOf, sumOf, nextRelease, Prepared}
-use Rattle.machine.specs.Best.{bestOf}
 use Rattle.machine.proofs.Idling.{next-after, next-le, pick-same}
 use Rattle.machine.proofs.RunningTimes.{set-accepted, times-each, times-brief, sum-limit}
 use Rattle.machine.proofs.Ticking.{pick-chosen, next-moved, advance-none, advance-found, advance-inside, advance-room, advance-work}

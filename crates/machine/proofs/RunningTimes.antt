@@ -23,7 +23,7 @@ use Rattle.jobs.specs.Jobs.{noJob, jobsOf, jobAt}
 use Rattle.jobs.specs.Checks.{checkOf}
 use Rattle.jobs.proofs.Accepted.{Accepted, accepted}
 use Rattle.jobs.proofs.Sets.{length-jobs, job-at}
-use Rattle.theory.specs.Releases.{tableOf}
+use Rattle.theory.specs.Table.{tableOf}
 use Rattle.theory.specs.Runs.{timeAt, Times}
 use Rattle.machine.specs.Times.{inRange, timesFit, machineCheck}
 use Rattle.machine.specs.Private.{Brief, sumOf}

@@ -4,7 +4,7 @@
 --   Good   what holds after each tick
 use Prim.Native.Nat.{ℕ, zero, suc, _+_, _*_, _≤_, _<_}
 use mathlib.Core.Path.{_≡_, refl, sym, ap, subst, _∙_}
-use mathlib.Core.Bool.{Bool, true, false, cond}
+use mathlib.Core.Bool.{Bool, true, false, cond, _&&_}
 use mathlib.Core.List.{List, [], _∷_}
 use mathlib.Core.Logic.{_⊎_, inl, inr, _≢_}
 use native.Mathlib.Omega.{arith}
@@ -20,42 +20,43 @@ use Rattle.theory.specs.Table.{Table}
 use Rattle.theory.specs.Runs.{Entry, idle, runs}
 use Rattle.machine.specs.declared.state.State.{State}
 use Rattle.machine.specs.declared.trace.Span.{Span}
-use Rattle.machine.specs.States.{start}
-use Rattle.machine.specs.Ready.{complete, ready}
+use Rattle.machine.specs.States.{start, complete, ready, allComplete}
 use Rattle.machine.specs.Pick.{pick}
-use Rattle.machine.specs.Ticks.{allComplete, moved}
+use Rattle.machine.specs.Steps.{moved}
 use Rattle.machine.specs.Runs.{after, entry}
-use Rattle.machine.specs.Traces.{goesOn, extended, noted, spans}
+use Rattle.machine.specs.Traces.{noted, spans}
 use Rattle.machine.proofs.Readiness.{Parts, ready-parts, parts-ready, predecessor-stays, worked, worked-here, worked-other, complete-other}
 use Rattle.machine.proofs.Picks.{Before, before-asymmetric, Chosen}
 use Rattle.machine.proofs.Ticking.{pick-chosen, pick-none, next-moved, next-stays}
 use Rattle.machine.proofs.Course.{none-done, pick-settled, going-time}
 
--- ---- one more tick in a trace
+-- ---- one more tick in a trace: whether the latest span is one of the job at u and ends at n, and the spans after the job at u ran in tick n
+abbrev pub goesOn : List Span → ℕ → ℕ → Bool
+goesOn [] u n = false
+goesOn (s ∷ ss) u n = eqb (s .at) u && eqb (s .to) n
+
+abbrev pub extended : List Span → ℕ → ℕ → List Span
+extended ss u n = noted ss n (runs u)
+
 pub extended-on : (ss : List Span) (u n : ℕ) → goesOn ss u n ≡ true → length (extended ss u n) ≡ length ss
-unfolding extended goesOn
+unfolding noted
 extended-on [] u n h = absurd (both-ways h refl)
 extended-on (s ∷ ss) u n h = rw h
 
 pub extended-new : (ss : List Span) (u n : ℕ) → goesOn ss u n ≡ false → length (extended ss u n) ≡ suc (length ss)
-unfolding extended
-extended-new ss u n h = rw h
+unfolding noted
+extended-new [] u n h = refl
+extended-new (s ∷ ss) u n h = rw h
 
-on-at : (s : Span) (ss : List Span) (u n : ℕ) → goesOn (s ∷ ss) u n ≡ true → s .at ≡ u
-unfolding goesOn
+pub on-at : (s : Span) (ss : List Span) (u n : ℕ) → goesOn (s ∷ ss) u n ≡ true → s .at ≡ u
 on-at s ss u n h = eqb-true _ _ (and-left (eqb (s .at) u) (eqb (s .to) n) h)
 
 goes-last : (s : Span) (ss : List Span) (u n : ℕ) → s .at ≡ u → s .to ≡ n → goesOn (s ∷ ss) u n ≡ true
-unfolding goesOn
 goes-last s ss u n a b = rw (eq-eqb (s .at) u a, eq-eqb (s .to) n b)
 
-none-on : (u n : ℕ) → goesOn [] u n ≡ false
-unfolding goesOn
-none-on u n = refl
-
 pub extended-goes : (ss : List Span) (u n : ℕ) → goesOn (extended ss u n) u (suc n) ≡ true
-unfolding extended
-extended-goes [] u n = rw (none-on u n) (goes-last (record { at = u; from = n; to = suc n }) [] u (suc n) refl refl)
+unfolding noted
+extended-goes [] u n = goes-last (record { at = u; from = n; to = suc n }) [] u (suc n) refl refl
 extended-goes (s ∷ ss) u n =
     by-test (goesOn (s ∷ ss) u n)
     (λ h. rw h (goes-last (record { at = s .at; from = s .from; to = suc n }) ss u (suc n) (on-at s ss u n h) refl))
@@ -215,6 +216,7 @@ module _ (t : Table) (times : List ℕ) where
         }
 
     good-moved : (e : Entry) → pick t times s ≡ e → Good (moved e s) (noted ss (s .time) e)
+    unfolding noted
     good-moved idle q = good-idle q
     good-moved (runs u) q = good-ran u q
 
@@ -233,7 +235,7 @@ module _ (t : Table) (times : List ℕ) where
 
   module _ (R : ℕ) (few : t .count ≤ maxJobs) (released : (u : ℕ) → u < t .count → t .earliest u ≤ R) where
     good : (n : ℕ) → Good (after t times n) (spans t times n)
-    unfolding after spans entry
+    unfolding after spans entry noted
     good zero = good-start
     good (suc n) =
         let s = after t times n in

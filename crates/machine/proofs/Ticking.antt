@@ -17,22 +17,18 @@ use Rattle.jobs.specs.Refusals.{unless}
 use Rattle.jobs.specs.Limits.{maxJobs}
 use Rattle.jobs.specs.Jobs.{noJob, jobsOf, jobAt}
 use Rattle.jobs.proofs.Sets.{length-jobs, job-at}
-use Rattle.theory.specs.Table.{Table}
-use Rattle.theory.specs.Releases.{tableOf}
+use Rattle.theory.specs.Table.{Table, tableOf}
 use Rattle.theory.specs.Runs.{Entry, idle, runs}
 use Rattle.machine.specs.declared.state.State.{State}
 use Rattle.machine.specs.declared.columns.Columns.{Columns}
 use Rattle.machine.specs.declared.pick.Best.{Best}
 use Rattle.machine.specs.declared.step.Ticked.the-variants.{Ran, Idle, Finished, Refused as RefusedTick}
 use Rattle.laws.specs.Words.{everyBelow}
-use Rattle.machine.specs.States.{lastTime}
+use Rattle.machine.specs.States.{lastTime, complete, ready, allComplete}
 use Rattle.machine.specs.Times.{machineCheck}
-use Rattle.machine.specs.Ready.{complete, ready}
-use Rattle.machine.specs.Pick.{pickUpTo, pick}
-use Rattle.machine.specs.Ticks.{allComplete, moved, next, tickOf}
-use Rattle.machine.specs.Steps.{possible, stateCheck, stepCheck, stepOf}
+use Rattle.machine.specs.Pick.{pickUpTo, pick, bestOf}
+use Rattle.machine.specs.Steps.{moved, next, tickOf, possible, stateCheck, stepCheck, stepOf}
 use Rattle.machine.specs.Private.{seen, Shown, Prepared}
-use Rattle.machine.specs.Best.{bestOf}
 use Rattle.machine.proofs.Every.{every-not, every-at, every-ext}
 use Rattle.machine.proofs.Readiness.{Alike, predecessor-bare, predecessor-alike, ready-parts, complete-ne}
 use Rattle.machine.proofs.RunningTimes.{set-accepted, times-each}

@@ -9,12 +9,11 @@ use mathlib.Core.List.{List, [], _∷_, _++_, append-assoc}
 use native.Mathlib.Omega.{arith}
 use native.Mathlib.Numerals.{add-one}
 use native.Mathlib.Nat.{add-zero, add-suc, zero-add}
-use lib.Dec.{eqb}
 use lib.ListN.{length, set, drop, length-append}
 use lib.Seq.{take-at, drop-append-add}
-use borrow.Author.Tests.{lt-ltb, lt-leb, le-leb, eqb-true}
+use borrow.Author.Tests.{lt-ltb, lt-leb, le-leb}
 use Rattle.laws.specs.Words.{patched}
-use Rattle.laws.proofs.Tests.{by-test, and-left}
+use Rattle.laws.proofs.Tests.{by-test}
 use Rattle.laws.proofs.Buffers.{patched-more, length-patched}
 use Rattle.jobs.specs.declared.job.Job.{Job}
 use Rattle.jobs.specs.declared.refusal.Refusal.{Refusal}
@@ -22,20 +21,18 @@ use Rattle.jobs.specs.declared.refusal.Refusal.the-variants.{ShortBuffer}
 use Rattle.jobs.specs.declared.refusal.Check.the-variants.{Passed, Refused}
 use Rattle.jobs.specs.Limits.{maxJobs}
 use Rattle.jobs.specs.Jobs.{jobAt}
-use Rattle.theory.specs.Table.{Table}
-use Rattle.theory.specs.Releases.{tableOf}
+use Rattle.theory.specs.Table.{Table, tableOf}
 use Rattle.theory.specs.Runs.{idle, runs}
 use Rattle.machine.specs.declared.trace.Span.{Span}
 use Rattle.machine.specs.declared.trace.Put.{Put}
 use Rattle.machine.specs.declared.trace.Traced.the-variants.{Entries, Refused as RefusedTrace}
-use Rattle.machine.specs.States.{lastTime}
+use Rattle.machine.specs.States.{lastTime, allComplete}
 use Rattle.machine.specs.Times.{machineCheck}
-use Rattle.machine.specs.Ticks.{allComplete}
 use Rattle.machine.specs.Runs.{after, entry}
-use Rattle.machine.specs.Traces.{goesOn, extended, spans, row, rows, roomFor, traceCheck, traced, traceOf, tracedIn}
+use Rattle.machine.proofs.Spans.{goesOn, extended, on-at, spans-within-twice}
+use Rattle.machine.specs.Traces.{noted, spans, row, rows, roomFor, traceCheck, traced, traceOf, tracedIn}
 use Rattle.machine.specs.Private.{putAt}
 use Rattle.machine.proofs.Running.{at-limit, lastRelease, few-jobs, released-by, entry-settled, Reached, reached-settled, reached-limit}
-use Rattle.machine.proofs.Spans.{spans-within-twice}
 
 -- ---- four numbers stored one after the other
 stored-at : {A : Type 0} (w x y z : A) (b : List A) (k : ℕ) → suc (suc (suc k)) < length b
@@ -103,8 +100,9 @@ module _ (js : List Job) (u time : ℕ) where
       rw (l, rows-next) (patched-more b 0 (rows js ss) (row js new) (omega arith))
 
   extended-fresh : (ss : List Span) → goesOn ss u time ≡ false → extended ss u time ≡ new ∷ ss
-  unfolding extended
-  extended-fresh ss h = rw (h, add-one time)
+  unfolding noted
+  extended-fresh [] h = rw (add-one time)
+  extended-fresh (s ∷ ss) h = rw (h, add-one time)
 
   fresh : (ss : List Span) → goesOn ss u time ≡ false → Stored js ss u time (record { entry = length ss; entries = length ss + 1; span = new })
   fresh ss h =
@@ -120,13 +118,9 @@ module _ (js : List Job) (u time : ℕ) where
   abbrev longer : Span → Span
   longer s = record { at = u; from = s .from; to = time + 1 }
 
-  on-at : (s : Span) (ss : List Span) → goesOn (s ∷ ss) u time ≡ true → s .at ≡ u
-  unfolding goesOn
-  on-at s ss h = eqb-true _ _ (and-left (eqb (s .at) u) (eqb (s .to) time) h)
-
   extended-goes-on : (s : Span) (ss : List Span) → goesOn (s ∷ ss) u time ≡ true → extended (s ∷ ss) u time ≡ longer s ∷ ss
-  unfolding extended
-  extended-goes-on s ss h = rw (h, on-at s ss h, add-one time)
+  unfolding noted
+  extended-goes-on s ss h = rw (h, on-at s ss u time h, add-one time)
 
   goes : (s : Span) (ss : List Span) → goesOn (s ∷ ss) u time ≡ true
       → Stored js (s ∷ ss) u time (record { entry = suc (length ss) - 1; entries = suc (length ss); span = longer s })
@@ -150,20 +144,16 @@ module _ (js : List Job) (u time : ℕ) where
 
   put-on : (s : Span) (ss : List Span) → goesOn (s ∷ ss) u time ≡ true
       → putAt s (suc (length ss)) u time ≡ record { entry = suc (length ss) - 1; entries = suc (length ss); span = longer s }
-  unfolding putAt goesOn
+  unfolding putAt
   put-on s ss h = rw (lt-ltb 0 (suc (length ss)) (omega arith), h)
 
   put-new : (s : Span) (ss : List Span) → goesOn (s ∷ ss) u time ≡ false
       → putAt s (suc (length ss)) u time ≡ record { entry = suc (length ss); entries = suc (length ss) + 1; span = new }
-  unfolding putAt goesOn
+  unfolding putAt
   put-new s ss h = rw (lt-ltb 0 (suc (length ss)) (omega arith), h)
 
-  none-goes : goesOn [] u time ≡ false
-  unfolding goesOn
-  none-goes = refl
-
   stored-here : (ss : List Span) → Stored js ss u time (putAt (latest ss) (length ss) u time)
-  stored-here [] = subst (Stored js [] u time) (sym put-none) (fresh [] none-goes)
+  stored-here [] = subst (Stored js [] u time) (sym put-none) (fresh [] refl)
   stored-here (s ∷ ss) =
       by-test (goesOn (s ∷ ss) u time)
       (λ h. subst (Stored js (s ∷ ss) u time) (sym (put-on s ss h)) (goes s ss h))
@@ -179,7 +169,7 @@ module _ (t : Table) (times : List ℕ) where
   spans-ran u time e = rw (add-one, e)
 
   spans-idle : (time : ℕ) → entry t times time ≡ idle → spans t times (suc time) ≡ spans t times time
-  unfolding spans
+  unfolding spans noted
   spans-idle time e = rw e
 
   pub spans-settled : (n : ℕ) → allComplete times (after t times n .work) (t .count) ≡ true → (m : ℕ) → spans t times (n + m) ≡ spans t times n

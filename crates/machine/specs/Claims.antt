@@ -1,17 +1,9 @@
--- What is proved of the machine, for every accepted set and running times in range.
---   EveryMachine    a claim about every set and running times that pass the checks 4 to 8
---   Ends            the run ends before the limit on times, with all work done
---   FinishedWhen    "finished" is said exactly when all work is done
---   Demanded        the machine's entries are a run of demand 3
---   KeepsBounds     each completion is at or before its ITR bound
---   spanEntry       the entry of a tick, read from spans
---   GivesBack       the trace, read as spans, gives back the entries
---   WithinTwice     the trace has at most twice as many entries as there are jobs
--- Each is proved in proofs/Claims under the name that its comment gives. Assumes nothing.
+-- What is proved of the machine for every accepted set and running times in range, in proofs/Claims under the name that a comment gives.
+-- Assumes nothing.
 use Rattle.laws.specs.Words.{ℕ, _*_, _≤_, _<_, _≡_, cond, _&&_, List, [], _∷_, leb, ltb, length, getD}
 use Rattle.jobs.specs.declared.job.Job.{Job}
 use Rattle.jobs.specs.declared.refusal.Check.the-variants.{Passed}
-use Rattle.theory.specs.Releases.{tableOf}
+use Rattle.theory.specs.Table.{tableOf}
 use Rattle.theory.specs.Bounds.{boundAt}
 use Rattle.theory.specs.Rounds.{itr}
 use Rattle.theory.specs.Runs.{Entry, idle, runs, Run}
@@ -20,11 +12,11 @@ use Rattle.machine.specs.declared.step.Ticked.the-variants.{Finished}
 use Rattle.machine.specs.declared.trace.Span.{Span}
 use Rattle.machine.specs.States.{lastTime}
 use Rattle.machine.specs.Times.{machineCheck}
-use Rattle.machine.specs.Ticks.{tickOf}
+use Rattle.machine.specs.Steps.{tickOf}
 use Rattle.machine.specs.Runs.{entry, entries, finish, completions}
 use Rattle.machine.specs.Traces.{traced}
 
--- The set is accepted and the running times are one for each job, each in its range.
+-- A claim about every set and running times that pass the checks 4 to 8.
 abbrev pub EveryMachine : (List Job → List ℕ → Type 0) → Type 0
 EveryMachine Claim = (js : List Job) (times : List ℕ) → machineCheck js times ≡ Passed → Claim js times
 
@@ -32,35 +24,35 @@ EveryMachine Claim = (js : List Job) (times : List ℕ) → machineCheck js time
 abbrev pub AllDone : List Job → List ℕ → State → Type 0
 AllDone js times s = (u : ℕ) → u < length js → getD (s .work) u 0 ≡ getD times u 0
 
--- `run-ends`: no budget is ever met.
+-- `run-ends`: the run ends before the limit on times, with all work done.
 pub record Ends (js : List Job) (times : List ℕ) : Type 0 where
   pub early : finish (tableOf js) times .time < lastTime
   pub done : AllDone js times (finish (tableOf js) times)
 
--- `finished-when`: of any state.
+-- `finished-when`: a tick says "finished" exactly when all work is done, in any state.
 pub record FinishedWhen (js : List Job) (times : List ℕ) : Type 0 where
   pub only : (s : State) → tickOf js times s .ticked ≡ Finished → AllDone js times s
   pub always : (s : State) → AllDone js times s → tickOf js times s .ticked ≡ Finished
 
--- `machine-legal`: at every length, with the effective releases.
+-- `machine-legal`: the machine's entries are a run of demand 3 at every length, with the effective releases.
 abbrev pub Demanded : List Job → List ℕ → Type 0
 Demanded js times = (n : ℕ) → Run (tableOf js) (tableOf js .earliest) times (entries (tableOf js) times n)
 
--- `machine-keeps-bounds`: by the bounds of demand 3.
+-- `machine-keeps-bounds`: each completion is at or before its ITR bound.
 abbrev pub KeepsBounds : List Job → List ℕ → Type 0
 KeepsBounds js times = (u : ℕ) → u < length js → getD (completions (tableOf js) times) u 0 ≤ boundAt (itr (tableOf js) .bounds) u
 
--- The entry of tick n: the job whose span holds it, or idle.
+-- The entry of tick n, read from spans: the job whose span holds it, or idle.
 unfoldable pub spanEntry : List Span → ℕ → Entry
 spanEntry [] n = idle
 spanEntry (s ∷ ss) n =
     let others = spanEntry ss n in
     cond (leb (s .from) n && ltb n (s .to)) (runs (s .at)) others
 
--- `trace-gives-back`: tick for tick.
+-- `trace-gives-back`: the trace, read as spans, gives back the entries tick for tick.
 abbrev pub GivesBack : List Job → List ℕ → Type 0
 GivesBack js times = (n : ℕ) → n < lastTime → spanEntry (traced js times) n ≡ entry (tableOf js) times n
 
--- `trace-within-twice`: whatever the running times.
+-- `trace-within-twice`: the trace has at most twice as many entries as there are jobs.
 abbrev pub WithinTwice : List Job → List ℕ → Type 0
 WithinTwice js times = length (traced js times) ≤ 2 * length js

@@ -1,9 +1,6 @@
 pub mod States
 pub mod Times
-pub mod Ready
 pub mod Pick
-pub mod Best
-pub mod Ticks
 pub mod Steps
 pub mod Runs
 pub mod Traces

@@ -1,15 +1,10 @@
--- The pick: which ready job runs. Document 01, "The ready job of highest priority runs; among equals, the lowest chain number".
---   outranks    the relation: urgency first, then the tie rule
---   goesFirst   the same for the jobs at two places; of two ready jobs, which one runs
---   preferred   the job that runs of one picked so far and a further ready one
---   pickUpTo    what runs of the first n jobs, or idle
---   pick        what runs of all jobs in a state's next tick
--- Assumes nothing.
-use Rattle.laws.specs.Words.{ℕ, zero, suc, Bool, cond, _&&_, _||_, List, ltb, eqb}
+-- The pick: which ready job runs. Document 01, "The ready job of highest priority runs; among equals, the lowest chain number". Assumes nothing.
+use Rattle.laws.specs.Words.{ℕ, zero, suc, Bool, true, false, cond, _&&_, _||_, List, ltb, eqb}
 use Rattle.theory.specs.Table.{Table}
 use Rattle.theory.specs.Runs.{Entry, idle, runs}
 use Rattle.machine.specs.declared.state.State.{State}
-use Rattle.machine.specs.Ready.{ready}
+use Rattle.machine.specs.declared.pick.Best.{Best}
+use Rattle.machine.specs.States.{ready}
 
 -- A job of urgency p and chain c goes before one of urgency q and chain d.
 unfoldable pub outranks : ℕ → ℕ → ℕ → ℕ → Bool
@@ -19,18 +14,29 @@ outranks p c q d = ltb q p || (eqb p q && ltb c d)
 unfoldable pub goesFirst : Table → ℕ → ℕ → Bool
 goesFirst t u v = outranks (t .urgency u) (t .chain u) (t .urgency v) (t .chain v)
 
--- A ready job takes the place of one that it goes before.
+-- What runs of a pick so far and a further ready job.
 abbrev pub preferred : Table → Entry → ℕ → Entry
 preferred t idle u = runs u
 preferred t (runs v) u = cond (goesFirst t u v) (runs u) (runs v)
 
--- Idle where none of the first n jobs is ready.
+-- What runs of the first n jobs, idle where none of them is ready.
 unfoldable pub pickUpTo : Table → List ℕ → State → ℕ → Entry
 pickUpTo t times s zero = idle
 pickUpTo t times s (suc u) =
     let before = pickUpTo t times s u in
     cond (ready t times s u) (preferred t before u) before
 
--- The entry of a state's next tick.
+-- What runs of all jobs: the entry of a state's next tick.
 unfoldable pub pick : Table → List ℕ → State → Entry
 pick t times s = pickUpTo t times s (t .count)
+
+-- A pick as a scan over the jobs keeps it: the place, urgency and chain of what runs.
+abbrev pub bestOf : Table → Entry → Best
+bestOf t idle = record { found = false; at = 0; priority = 0; chain = 0 }
+bestOf t (runs u) = record { found = true; at = u; priority = t .urgency u; chain = t .chain u }
+
+-- The best so far after a ready job of urgency p and chain c at u.
+unfoldable pub better : Best → ℕ → ℕ → ℕ → Best
+better best u p c =
+    let new : Best = record { found = true; at = u; priority = p; chain = c } in
+    cond (best .found) (cond (outranks p c (best .priority) (best .chain)) new best) new

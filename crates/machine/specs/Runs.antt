@@ -1,59 +1,51 @@
--- The run from time 0. Document 01, "The machine".
---   after         the state after n ticks
---   entry         what the tick of this number runs
---   entries       the first n of these: a run in the sense of demand 3
---   completion    the end of the last of the first n ticks that ran a job, 0 where none did
---   finish        the state that the run comes to; a finished machine stays, so that further ticks change nothing
---   completions   each job's completion time, and 0 in the places beyond the jobs
---   runOf         the answer of a run: completions and end, or the refusal
--- Assumes nothing.
+-- The run from time 0. Document 01, "The machine". Assumes nothing.
 use Rattle.laws.specs.Words.{ℕ, zero, suc, cond, List, replicate, tabulate}
 use Rattle.jobs.specs.declared.job.Job.{Job}
 use Rattle.jobs.specs.declared.refusal.Check.{Check}
 use Rattle.jobs.specs.declared.refusal.Check.the-variants.{Passed, Refused}
 use Rattle.jobs.specs.Limits.{maxJobs}
-use Rattle.theory.specs.Table.{Table}
-use Rattle.theory.specs.Releases.{tableOf}
+use Rattle.theory.specs.Table.{Table, tableOf}
 use Rattle.theory.specs.Runs.{Entry, names}
 use Rattle.machine.specs.declared.state.State.{State}
 use Rattle.machine.specs.declared.run.Completed.{Completed}
 use Rattle.machine.specs.States.{lastTime, start}
 use Rattle.machine.specs.Times.{machineCheck}
 use Rattle.machine.specs.Pick.{pick}
-use Rattle.machine.specs.Ticks.{next}
+use Rattle.machine.specs.Steps.{next}
 
--- From the start, one tick after the other.
+-- The state after n ticks.
 unfoldable pub after : Table → List ℕ → ℕ → State
 after t times zero = start
 after t times (suc n) = next t times (after t times n)
 
--- Tick n covers the time from n to n + 1.
+-- What tick n runs, which covers the time from n to n + 1.
 unfoldable pub entry : Table → List ℕ → ℕ → Entry
 entry t times n = pick t times (after t times n)
 
--- One entry for each tick 0, 1, 2 and so on.
+-- The entries of the first n ticks: a run in the sense of demand 3.
 unfoldable pub entries : Table → List ℕ → ℕ → List Entry
 entries t times n = tabulate 0 n (entry t times)
 
--- A job completes at the end of its last tick.
+-- The end of the last of the first n ticks that ran a job, 0 where none did.
 unfoldable pub completion : Table → List ℕ → ℕ → ℕ → ℕ
 completion t times u zero = 0
 completion t times u (suc n) =
     let before = completion t times u n in
     cond (names (entry t times n) u) (suc n) before
 
--- No run from time 0 reaches the limit on times.
+-- The state that the run comes to before the limit on times: a finished machine stays as it is.
 abbrev pub finish : Table → List ℕ → State
 finish t times = after t times lastTime
 
--- One for each place of a set.
+-- Each job's completion time, and 0 in the places beyond the jobs.
 unfoldable pub completions : Table → List ℕ → List ℕ
 completions t times = tabulate 0 maxJobs (λ u. completion t times u lastTime)
 
+-- The answer of a run after its check: on a refusal all figures are 0.
 abbrev pub ranBy : Check → List ℕ → ℕ → Completed
 ranBy Passed times end = record { check = Passed; completions = times; end = end }
 ranBy (Refused refusal) times end = record { check = Refused refusal; completions = replicate maxJobs 0; end = 0 }
 
--- The end is the time at which all jobs are complete; on a refusal all figures are 0.
+-- The answer of a run: each job's completion, and the time at which all are complete, or the refusal.
 unfoldable pub runOf : List Job → List ℕ → Completed
 runOf js times = ranBy (machineCheck js times) (completions (tableOf js) times) (finish (tableOf js) times .time)

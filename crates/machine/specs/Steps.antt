@@ -1,44 +1,63 @@
--- One tick on a state that is handed over, with its checks. Document 01, numbers 4 to 8 and 11.
---   possible     no number 11 for one job of the state
---   stateCheck   number 11
---   stepCheck    4 to 7, then 8, then 11
---   stepOf       the answer and the state after a tick, or the refusal and the state as it was
--- Assumes nothing.
-use Rattle.laws.specs.Words.{ℕ, Bool, _&&_, _||_, List, leb, ltb, eqb, getD, everyBelow}
+-- One tick on a state that is handed over, with its checks. Document 01, "The machine" and numbers 4 to 8 and 11. Assumes nothing.
+use Rattle.laws.specs.Words.{ℕ, _+_, Bool, cond, _&&_, _||_, List, leb, ltb, eqb, getD, set, everyBelow}
 use Rattle.jobs.specs.declared.job.Job.{Job}
 use Rattle.jobs.specs.declared.refusal.Refusal.the-variants.{ImpossibleState}
 use Rattle.jobs.specs.declared.refusal.Check.{Check}
 use Rattle.jobs.specs.declared.refusal.Check.the-variants.{Passed, Refused}
+use Rattle.jobs.specs.Jobs.{jobAt}
 use Rattle.jobs.specs.Refusals.{unless, andThen}
-use Rattle.theory.specs.Table.{Table}
-use Rattle.theory.specs.Releases.{tableOf}
+use Rattle.theory.specs.Table.{Table, tableOf}
+use Rattle.theory.specs.Runs.{Entry, idle, runs}
 use Rattle.machine.specs.declared.state.State.{State}
-use Rattle.machine.specs.declared.step.Ticked.the-variants.{Refused as RefusedTick}
+use Rattle.machine.specs.declared.step.Ticked.{Ticked}
+use Rattle.machine.specs.declared.step.Ticked.the-variants.{Ran, Idle, Finished, Refused as RefusedTick}
 use Rattle.machine.specs.declared.step.Stepped.{Stepped}
-use Rattle.machine.specs.States.{lastTime}
+use Rattle.machine.specs.States.{lastTime, allComplete, predecessorComplete}
 use Rattle.machine.specs.Times.{machineCheck}
-use Rattle.machine.specs.Ready.{predecessorComplete}
-use Rattle.machine.specs.Ticks.{tickOf}
+use Rattle.machine.specs.Pick.{pick}
 
--- No more work than its running time, and work only with its predecessor complete and at a time after its release.
+-- The state after a tick with this entry: the time goes up by 1, and so does the work of the job that ran.
+abbrev pub moved : Entry → State → State
+moved idle s = record { time = s .time + 1; work = s .work }
+moved (runs u) s = record { time = s .time + 1; work = set (s .work) u (getD (s .work) u 0 + 1) }
+
+-- The state after one tick: as it was, where all jobs are complete before it.
+unfoldable pub next : Table → List ℕ → State → State
+next t times s = cond (allComplete times (s .work) (t .count)) s (moved (pick t times s) s)
+
+-- What a tick with this entry answers: the chain and job that ran, or "idle".
+abbrev pub ranAs : List Job → Entry → Ticked
+ranAs js idle = Idle
+ranAs js (runs u) = Ran (jobAt js u .chain) (jobAt js u .job)
+
+-- The answer of a tick, "finished" where all jobs are complete before it, and the state after it.
+unfoldable pub tickOf : List Job → List ℕ → State → Stepped
+tickOf js times s =
+    let t = tableOf js in
+    record {
+      ticked = cond (allComplete times (s .work) (t .count)) Finished (ranAs js (pick t times s));
+      state = next t times s;
+    }
+
+-- A job has no more work than its running time, and work only with its predecessor complete and at a time after its release.
 unfoldable pub possible : Table → List ℕ → State → ℕ → Bool
 possible t times s u =
     leb (getD (s .work) u 0) (getD times u 0)
     && (eqb (getD (s .work) u 0) 0 || (predecessorComplete t times (s .work) u && ltb (t .earliest u) (s .time)))
 
--- The time is not beyond its limit, and every job's work is possible.
+-- Number 11: the time is beyond its limit, or the work of some job is not possible.
 unfoldable pub stateCheck : Table → List ℕ → State → Check
 stateCheck t times s = unless (leb (s .time) lastTime && everyBelow (t .count) (possible t times s)) ImpossibleState Passed
 
--- In the order of the numbers.
+-- Numbers 4 to 7, then 8, then 11.
 unfoldable pub stepCheck : List Job → List ℕ → State → Check
 stepCheck js times s = andThen (machineCheck js times) (stateCheck (tableOf js) times s)
 
--- What a tick answers after its checks.
+-- A tick after its check: on a refusal the state stays.
 abbrev pub stepBy : Check → State → Stepped → Stepped
 stepBy Passed s ticked = ticked
 stepBy (Refused refusal) s ticked = record { ticked = RefusedTick refusal; state = s }
 
--- On a refusal the state stays.
+-- The answer and the state after a tick, or the refusal and the state as it was.
 unfoldable pub stepOf : List Job → List ℕ → State → Stepped
 stepOf js times s = stepBy (stepCheck js times s) s (tickOf js times s)

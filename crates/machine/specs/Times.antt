@@ -1,8 +1,4 @@
--- Running times. Document 01, number 8.
---   inRange        the running time of a job lies between its least and its most
---   timesFit       the running times are one for each job, each in its range
---   machineCheck   what the machine's operations check of a set and its running times: 4 to 7, then 8
--- Assumes nothing.
+-- Running times. Document 01, number 8. Assumes nothing.
 use Rattle.laws.specs.Words.{ℕ, Bool, _&&_, List, leb, eqb, length, getD, everyBelow}
 use Rattle.jobs.specs.declared.job.Job.{Job}
 use Rattle.jobs.specs.declared.refusal.Refusal.the-variants.{RunningTimes}
@@ -10,17 +6,16 @@ use Rattle.jobs.specs.declared.refusal.Check.{Check}
 use Rattle.jobs.specs.declared.refusal.Check.the-variants.{Passed}
 use Rattle.jobs.specs.Refusals.{unless, andThen}
 use Rattle.jobs.specs.Checks.{checkOf}
-use Rattle.theory.specs.Table.{Table}
-use Rattle.theory.specs.Releases.{tableOf}
+use Rattle.theory.specs.Table.{Table, tableOf}
 
--- From its least to its most.
+-- The running time of a job lies from its least to its most.
 unfoldable pub inRange : Table → List ℕ → ℕ → Bool
 inRange t times u = leb (t .least u) (getD times u 0) && leb (getD times u 0) (t .most u)
 
--- One for each job, none outside its range.
+-- The running times are one for each job, each in its range.
 unfoldable pub timesFit : Table → List ℕ → Bool
 timesFit t times = eqb (length times) (t .count) && everyBelow (t .count) (inRange t times)
 
--- A set's 4 to 7 before 8.
+-- What the machine's operations check of a set and its running times: 4 to 7, then 8.
 unfoldable pub machineCheck : List Job → List ℕ → Check
 machineCheck js times = andThen (checkOf js) (unless (timesFit (tableOf js) times) RunningTimes Passed)

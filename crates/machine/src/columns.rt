@@ -2,7 +2,7 @@
 ghost use Rattle.laws.specs.Words.{_≡_, _+_, _<_, _^_};
 ghost use Rattle.jobs.specs.Jobs.{jobsOf};
 ghost use Rattle.jobs.proofs.Accepted.{Accepted};
-ghost use Rattle.theory.specs.Releases.{tableOf};
+ghost use Rattle.theory.specs.Table.{tableOf};
 ghost use Rattle.machine.specs.Private.{Shown, carried};
 use jobs::job::Job;
 use jobs::set::JobSet;

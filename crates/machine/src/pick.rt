@@ -1,9 +1,8 @@
 // The pick: of the ready jobs, the one of highest priority and, among equals, of the lowest chain number.
 ghost use Rattle.laws.specs.Words.{_≡_, _<_, _≤_, length};
 ghost use Rattle.jobs.specs.Limits.{maxJobs};
-ghost use Rattle.machine.specs.Pick.{outranks, pickUpTo};
-ghost use Rattle.machine.specs.Private.{seen, stateOf};
-ghost use Rattle.machine.specs.Best.{bestOf, better, considered};
+ghost use Rattle.machine.specs.Pick.{outranks, pickUpTo, bestOf, better};
+ghost use Rattle.machine.specs.Private.{seen, stateOf, considered};
 use crate::ready::is_ready;
 use jobs::set::JobSet;
 

@@ -1,8 +1,7 @@
 // Which jobs are ready, from columns of their figures.
 ghost use Rattle.laws.specs.Words.{_≡_, [], _<_, _≤_, length};
 ghost use Rattle.jobs.specs.Limits.{maxJobs};
-ghost use Rattle.machine.specs.Ready.{complete, predecessorComplete, ready};
-ghost use Rattle.machine.specs.Ticks.{allComplete};
+ghost use Rattle.machine.specs.States.{complete, predecessorComplete, ready, allComplete};
 ghost use Rattle.machine.specs.Private.{seen, stateOf};
 use jobs::set::JobSet;
 

@@ -2,9 +2,8 @@
 ghost use Rattle.laws.specs.Words.{_≡_, [], _<_, _≤_, length, everyBelow};
 ghost use Rattle.jobs.specs.Limits.{maxJobs};
 ghost use Rattle.jobs.specs.Jobs.{jobsOf};
-ghost use Rattle.theory.specs.Releases.{tableOf};
-ghost use Rattle.machine.specs.Steps.{possible, stateCheck, stepOf};
-ghost use Rattle.machine.specs.Ticks.{tickOf};
+ghost use Rattle.theory.specs.Table.{tableOf};
+ghost use Rattle.machine.specs.Steps.{possible, stateCheck, stepOf, tickOf};
 ghost use Rattle.machine.specs.Private.{seen, stateOf, Prepared};
 use crate::columns::Columns;
 use crate::columns::columns_of;
@@ -103,15 +102,8 @@ fn advance(state: State, set: JobSet, columns: Columns, times: &[u64]) -> Steppe
     let priority = columns.priority;
     let release = columns.release;
     let work = state.work;
-    let best = best_of(
-        set.count,
-        &chain,
-        &priority,
-        &release,
-        times,
-        &work,
-        state.time,
-    );
+    let time = state.time;
+    let best = best_of(set.count, &chain, &priority, &release, times, &work, time);
     if best.found {
         let at = best.at;
         let mut next = state;

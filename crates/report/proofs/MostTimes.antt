@@ -19,7 +19,7 @@ use Rattle.jobs.specs.Jobs.{noJob, jobsOf, jobAt}
 use Rattle.jobs.specs.Checks.{checkOf}
 use Rattle.jobs.proofs.Sets.{length-jobs}
 use Rattle.jobs.proofs.Accepted.{accepted}
-use Rattle.theory.specs.Releases.{tableOf}
+use Rattle.theory.specs.Table.{tableOf}
 use Rattle.machine.specs.Times.{inRange, timesFit, machineCheck}
 use Rattle.machine.proofs.RunningTimes.{times-passed}
 use Rattle.report.specs.Texts.{mostTimes}

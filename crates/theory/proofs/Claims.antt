@@ -11,12 +11,11 @@ use Rattle.jobs.specs.declared.refusal.Check.the-variants.{Passed}
 use Rattle.jobs.specs.Limits.{maxJobs, maxRelease, maxTime}
 use Rattle.jobs.specs.Checks.{checkOf}
 use Rattle.jobs.proofs.Accepted.{accepted}
-use Rattle.theory.specs.Table.{Table}
-use Rattle.theory.specs.Releases.{tableOf}
+use Rattle.theory.specs.Table.{Table, tableOf}
 use Rattle.theory.specs.Bounds.{boundAt, ert, boundLimit}
 use Rattle.theory.specs.Rounds.{itr}
 use Rattle.theory.specs.Runs.{timeAt}
-use Rattle.theory.specs.Claims.{EveryAccepted, Compared, Demand3, Determined, ExactWork, Runnable, Bounded, FewRounds, Least, NoLater, Unmoved}
+use Rattle.theory.specs.Claims.{EveryAccepted, Compared, Demand3, Determined, Runnable, Bounded, FewRounds, Least, NoLater, Unmoved}
 use Rattle.theory.proofs.WellFormed.{WellFormed}
 use Rattle.theory.proofs.AcceptedSets.{accepted-ordered, accepted-well, accepted-most, accepted-latest}
 use Rattle.theory.proofs.Monotone.{cja-le-ert}
@@ -49,9 +48,6 @@ demand-3 =
 
 pub rounds-determined : EveryAccepted Determined
 rounds-determined = of-well-formed Determined (λ t well answer h. settled-unique t answer (itr t) h (itr-settled t))
-
-pub exact-work : EveryAccepted ExactWork
-exact-work = of-well-formed ExactWork (λ t well release times run is j l long. itr-holds t well j l release times run is long)
 
 pub runs-exist : EveryAccepted Runnable
 runs-exist =

@@ -8,8 +8,7 @@ use mathlib.Core.List.{List, map}
 use lib.ListN.{length, getD, List·getD-map}
 use Rattle.jobs.specs.declared.job.Job.{Job}
 use Rattle.jobs.specs.Jobs.{noJob}
-use Rattle.theory.specs.Table.{Table}
-use Rattle.theory.specs.Releases.{effective, urgencyOf, latestOf, given, tableOf}
+use Rattle.theory.specs.Table.{Table, effective, urgencyOf, latestOf, given, tableOf}
 
 abbrev pub fromColumns : ℕ → List ℕ → List ℕ → List ℕ → List ℕ → List ℕ → List ℕ → Table
 fromColumns n chains urgencies leasts mosts earliests latests =

@@ -6,8 +6,7 @@ use native.Mathlib.Omega.{arith}
 use borrow.Author.Tests.{eq-eqb, ne-eqb}
 use Rattle.laws.proofs.Tests.{by-equal}
 use Rattle.jobs.specs.declared.job.Job.{Job}
-use Rattle.theory.specs.Table.{Table, joined}
-use Rattle.theory.specs.Releases.{effectiveEarliest, effectiveLatest, effective, tableOf}
+use Rattle.theory.specs.Table.{Table, joined, effectiveEarliest, effectiveLatest, effective, tableOf}
 use Rattle.theory.specs.Parts.{Part}
 use Rattle.theory.proofs.WellFormed.{Ordered}
 use Rattle.theory.proofs.Rules.{First, first-zero, first-after}

@@ -1,28 +1,20 @@
--- The bounds ERT and CJA. Document 01, "Bounds". A list of bounds has one for each job, in table order.
---   boundAt          the bound at a place
---   ertRule, ert     ERT, with any figure of interference and with the right one
---   demand, lowest   the most times of the jobs from k to j, added up, and the lowest urgency among them
---   pairBound        the sum that CJA takes for the pair (k, j), where the jobs of other chains that `keep` leaves out count 0
---   cjaWith, cja     the largest such sum for each j, with any choice of jobs and with all
---   boundLimit       what all bounds of an accepted set are below
--- Assumes nothing.
+-- The bounds ERT and CJA, each a list with one bound for each job, in table order. Document 01, "Bounds". Assumes nothing.
 use Rattle.laws.specs.Words.{ℕ, zero, suc, _+_, max, min, Bool, true, cond, List, leb, eqb, getD, tabulate}
 use Rattle.theory.specs.Table.{Table, joined}
 use Rattle.theory.specs.Interference.{interference}
 
--- A place beyond the list has bound 0.
+-- The bound at a place, 0 beyond the list.
 abbrev pub boundAt : List ℕ → ℕ → ℕ
 boundAt bounds i = getD bounds i 0
 
--- ERT: for the first job, release + most + interference; for a later one, the larger of its predecessor's bound and its release, + most +
--- interference.
+-- ERT with any figure of interference: release + most + interference, where for release a later job takes its predecessor's bound if that is larger.
 unfoldable pub ertRule : Table → (ℕ → ℕ) → ℕ → ℕ
 ertRule t inter zero = t .latest 0 + t .most 0 + inter 0
 ertRule t inter (suc i) =
     let before = ertRule t inter i in
     cond (joined t i) (max before (t .latest (suc i))) (t .latest (suc i)) + t .most (suc i) + inter (suc i)
 
--- Interference on the job at a place, where every job counts its most time.
+-- The interference on the job at a place, where every job counts its most time.
 unfoldable pub interferenceAt : Table → ℕ → ℕ
 interferenceAt t i = interference t (t .chain i) (t .urgency i) (t .most)
 
@@ -30,36 +22,36 @@ interferenceAt t i = interference t (t .chain i) (t .urgency i) (t .most)
 unfoldable pub ert : Table → List ℕ
 ert t = tabulate 0 (t .count) (ertRule t (interferenceAt t))
 
--- The most times of k to j, where k is at most j.
+-- The most times of the jobs from k to j added up, where k is at most j.
 unfoldable pub demand : Table → ℕ → ℕ → ℕ
 demand t k zero = t .most 0
 demand t k (suc j) = cond (leb k j) (demand t k j) 0 + t .most (suc j)
 
--- The lowest priority among k to j, where k is at most j.
+-- The lowest urgency among the jobs from k to j, where k is at most j.
 unfoldable pub lowest : Table → ℕ → ℕ → ℕ
 lowest t k zero = t .urgency 0
 lowest t k (suc j) = cond (leb k j) (min (lowest t k j) (t .urgency (suc j))) (t .urgency (suc j))
 
--- What a job u of another chain counts in the pair (k, j): its most time, or 0.
+-- What a job u of another chain counts in the pair (k, j): its most time, or 0 where `keep` leaves it out.
 unfoldable pub counted : Table → (ℕ → ℕ → ℕ → Bool) → ℕ → ℕ → ℕ → ℕ
 counted t keep k j u = cond (keep k j u) (t .most u) 0
 
--- Release of k, + the most times of k to j, + interference at the lowest priority among k to j.
+-- The sum for the pair (k, j): release of k + the most times from k to j + interference at the lowest urgency from k to j.
 unfoldable pub pairBound : Table → (ℕ → ℕ → ℕ → Bool) → ℕ → ℕ → ℕ
 pairBound t keep k j = t .latest k + demand t k j + interference t (t .chain j) (lowest t k j) (counted t keep k j)
 
--- The largest of these over the places k below n that are of j's chain.
+-- The largest such sum over the places k below n that are of j's chain.
 unfoldable pub largestPair : Table → (ℕ → ℕ → ℕ → Bool) → ℕ → ℕ → ℕ
 largestPair t keep j zero = 0
 largestPair t keep j (suc k) =
     let rest = largestPair t keep j k in
     max (cond (eqb (t .chain k) (t .chain j)) (pairBound t keep k j) 0) rest
 
--- CJA of job j: the largest over k from 1 to j in its chain.
+-- CJA with any choice of jobs that count: for each j the largest sum over the jobs of its chain up to j.
 unfoldable pub cjaWith : Table → (ℕ → ℕ → ℕ → Bool) → List ℕ
 cjaWith t keep = tabulate 0 (t .count) (λ j. largestPair t keep j (suc j))
 
--- CJA leaves no job out.
+-- The choice that leaves no job out.
 abbrev pub always : ℕ → ℕ → ℕ → Bool
 always k j u = true
 
@@ -67,6 +59,6 @@ always k j u = true
 unfoldable pub cja : Table → List ℕ
 cja t = cjaWith t always
 
--- All bounds are below 10,000,000,000.
+-- All bounds of an accepted set are below this.
 abbrev pub boundLimit : ℕ
 boundLimit = 10000000000

@@ -1,27 +1,16 @@
--- What is proved of every accepted set of jobs. Document 01, "The runs of demand 3" and "Bounds".
---   EveryAccepted   a claim about the table of every list of jobs that the check of a set passes
---   Demand3         demand 3: the bounds hold, they are in order, and the rounds end as they should
---   Determined      no other answer has the rounds that demand 3 speaks of
---   ExactWork       by its ITR bound each job has run for exactly its running time
---   Runnable        there is something to claim: times and releases in range, and with any such a run of every length
---   Bounded         all bounds are below the limit
---   FewRounds       there are at most as many rounds as jobs, and one where there is no job
---   Least           ITR's bounds are the least that a round leaves unchanged
---   NoLater         no bound rises where chains are taken off
---   Unmoved         chains that are strictly less urgent than all others move none of their bounds
--- Each is proved in proofs/Claims under the name that its comment gives. Assumes nothing.
+-- What is proved of every accepted set of jobs, in proofs/Claims under the name that a comment gives. Document 01, "The runs of demand 3" and "Bounds".
+-- Assumes nothing.
 use Rattle.laws.specs.Words.{ℕ, zero, suc, _≤_, _<_, max, _≡_, List, length}
 use Rattle.jobs.specs.declared.job.Job.{Job}
 use Rattle.jobs.specs.declared.refusal.Check.the-variants.{Passed}
 use Rattle.jobs.specs.Checks.{checkOf}
-use Rattle.theory.specs.Table.{Table}
-use Rattle.theory.specs.Releases.{tableOf}
+use Rattle.theory.specs.Table.{Table, tableOf}
 use Rattle.theory.specs.Bounds.{boundAt, ert, cja, boundLimit}
 use Rattle.theory.specs.Rounds.{round, after, Answer, roundLimit, itr}
-use Rattle.theory.specs.Runs.{Entry, work, timeAt, Times, Releases, Run, CompleteBy}
+use Rattle.theory.specs.Runs.{Entry, Times, Releases, Run, CompleteBy}
 use Rattle.theory.specs.Parts.{Part, LessUrgent}
 
--- A set is accepted where no number of checking a set handed by value applies to it.
+-- A claim about the table of every accepted list of jobs: no number of checking a set handed by value applies to it.
 abbrev pub EveryAccepted : (Table → Type 0) → Type 0
 EveryAccepted Claim = (js : List Job) → checkOf js ≡ Passed → Claim (tableOf js)
 
@@ -29,7 +18,7 @@ EveryAccepted Claim = (js : List Job) → checkOf js ≡ Passed → Claim (table
 abbrev pub Holds : Table → List ℕ → Type 0
 Holds t bounds = (j : ℕ) → j < t .count → CompleteBy t j (boundAt bounds j)
 
--- Bounds at most others, at each of the first n places.
+-- The first bounds are at most the others, at each of the first n places.
 abbrev pub AtMost : ℕ → List ℕ → List ℕ → Type 0
 AtMost n a b = (i : ℕ) → i < n → boundAt a i ≤ boundAt b i
 
@@ -44,7 +33,7 @@ pub record Settled (t : Table) (answer : Answer) : Type 0 where
   pub last : Repeats t (answer .rounds)
   pub first : (n : ℕ) → n < answer .rounds → Repeats t n → ⊥
 
--- `demand-3`: one claim over whole lists, for all running times and releases in range and any pick among equals.
+-- `demand-3`: the bounds hold, they are in order, and the rounds end as they should, for all running times and releases in range and any pick among equals.
 pub record Demand3 (t : Table) : Type 0 where
   pub by-ert : Holds t (ert t)
   pub by-cja : Holds t (cja t)
@@ -54,15 +43,9 @@ pub record Demand3 (t : Table) : Type 0 where
   pub rounds : itr t .rounds ≤ roundLimit t
   pub settled : Settled t (itr t)
 
--- `rounds-determined`: the count less one, or any other number, is ruled out.
+-- `rounds-determined`: no other answer has settled, so that the count less one, or any other number, is ruled out.
 abbrev pub Determined : Table → Type 0
 Determined t = (answer : Answer) → Settled t answer → answer ≡ itr t
-
--- `exact-work`: in each run every job whose ITR bound is not beyond the end has by then run for exactly its running time.
-abbrev pub ExactWork : Table → Type 0
-ExactWork t =
-    (release : ℕ → ℕ) (times : List ℕ) (run : List Entry) → Run t release times run
-    → (j : ℕ) → j < t .count → boundAt (itr t .bounds) j ≤ length run → work run j (boundAt (itr t .bounds) j) ≡ timeAt times j
 
 -- A run of n entries.
 pub record RunOf (t : Table) (release : ℕ → ℕ) (times : List ℕ) (n : ℕ) : Type 0 where
@@ -84,11 +67,11 @@ pub record Bounded (t : Table) : Type 0 where
   pub by-cja : (i : ℕ) → i < t .count → boundAt (cja t) i < boundLimit
   pub by-itr : (i : ℕ) → i < t .count → boundAt (itr t .bounds) i < boundLimit
 
--- `few-rounds`: the limit N × N × (N − 1) + 2 is far from reached.
+-- `few-rounds`: there are at most as many rounds as jobs, and one where there is no job.
 abbrev pub FewRounds : Table → Type 0
 FewRounds t = itr t .rounds ≤ max 1 (t .count)
 
--- `itr-least`: bounds that a round leaves unchanged are at least as late for every job.
+-- `itr-least`: ITR's bounds are the least that a round leaves unchanged.
 abbrev pub Least : Table → Type 0
 Least t = (bounds : List ℕ) → round t bounds ≡ bounds → AtMost (t .count) (itr t .bounds) bounds
 
@@ -98,10 +81,10 @@ pub record Compared (Relation : ℕ → ℕ → Type 0) (part t : Table) (place 
   pub by-cja : (i : ℕ) → i < part .count → Relation (boundAt (cja part) i) (boundAt (cja t) (place i))
   pub by-itr : (i : ℕ) → i < part .count → Relation (boundAt (itr part .bounds) i) (boundAt (itr t .bounds) (place i))
 
--- `taken-off`: taking chains off never makes a bound of the others later.
+-- `taken-off`: no bound rises where chains are taken off.
 abbrev pub NoLater : Table → Type 0
 NoLater t = (part : Table) (place number : ℕ → ℕ) → Part part t place number → Compared _≤_ part t place
 
--- `least-urgent`: chains strictly less urgent than all others change no bound of theirs.
+-- `least-urgent`: chains strictly less urgent than all others move none of their bounds.
 abbrev pub Unmoved : Table → Type 0
 Unmoved t = (part : Table) (place number : ℕ → ℕ) → Part part t place number → LessUrgent part t place → Compared _≡_ part t place

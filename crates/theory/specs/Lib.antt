@@ -1,5 +1,4 @@
 pub mod Table
-pub mod Releases
 pub mod Interference
 pub mod Bounds
 pub mod Rounds

@@ -1,16 +1,12 @@
--- A part of a table: some of its chains, each kept whole and in order, under numbers that may be lower.
---   Left         the job at a place of the table is not of the part
---   Part         the job at place i of the part is the one at `place i` of the table, where its chain x is called `number x`
---   LessUrgent   each job that is not of the part is strictly less urgent than each job of the part
--- Assumes nothing.
+-- A part of a table: some of its chains, each kept whole and in order, under numbers that may be lower. Assumes nothing.
 use Rattle.laws.specs.Words.{ℕ, suc, _<_, _≡_, _≢_}
 use Rattle.theory.specs.Table.{Table}
 
--- No job of the part stands at this place.
+-- The job at a place of the table is not of the part.
 abbrev pub Left : Table → (ℕ → ℕ) → ℕ → Type 0
 Left part place u = (i : ℕ) → i < part .count → place i ≢ u
 
--- The places and the chain numbers rise, and the jobs are the same; only a chain's number may be another.
+-- The job at place i of the part is the one at `place i` of the table, where its chain x is called `number x`; both rise.
 pub record Part (part t : Table) (place number : ℕ → ℕ) : Type 0 where
   pub inside : (i : ℕ) → i < part .count → place i < t .count
   pub rises : (i : ℕ) → suc i < part .count → place i < place (suc i)
@@ -24,6 +20,6 @@ pub record Part (part t : Table) (place number : ℕ → ℕ) : Type 0 where
   -- Of each chain that the part has, it has every job.
   pub whole : (u x : ℕ) → u < t .count → t .chain u ≡ number x → Left part place u → ⊥
 
--- What is left is strictly less urgent than all that is of the part.
+-- Each job that is not of the part is strictly less urgent than each job of the part.
 abbrev pub LessUrgent : Table → Table → (ℕ → ℕ) → Type 0
 LessUrgent part t place = (u i : ℕ) → u < t .count → Left part place u → i < part .count → t .urgency u < part .urgency i

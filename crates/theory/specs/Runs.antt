@@ -1,17 +1,8 @@
--- The runs of demand 3. Document 01, "The runs of demand 3". Nothing here is taken from the machine or its state.
---   Entry                 one tick of a run: a job of the table, by its place, or idle
---   work                  how many of the entries before n name a job
---   Complete              a job's work at n is its running time
---   PredecessorComplete   where a job has a predecessor, that is complete
---   Ready, LegalEntry     what may run at n, and what must
---   Times, Releases       running times and releases in their ranges
---   Run                   a legal run with running times and releases in range
---   CompleteBy            complete no later than a bound
--- Assumes nothing.
+-- The runs of demand 3. Document 01, "The runs of demand 3". Nothing here is taken from the machine or its state. Assumes nothing.
 use Rattle.laws.specs.Words.{ℕ, zero, suc, _+_, _≤_, _<_, _≡_, Bool, false, cond, List, eqb, length, getD}
 use Rattle.theory.specs.Table.{Table}
 
--- An entry is a job of the table or idle.
+-- One tick of a run: a job of the table, by its place, or idle.
 pub data Entry : Type 0 where
   idle : Entry
   runs : ℕ → Entry
@@ -21,16 +12,16 @@ unfoldable pub names : Entry → ℕ → Bool
 names idle u = false
 names (runs v) u = eqb v u
 
--- A run has one entry for each tick 0, 1, 2 and so on.
+-- The entry of tick n of a run, which has one for each tick 0, 1, 2 and so on.
 unfoldable pub entryAt : List Entry → ℕ → Entry
 entryAt run n = getD run n idle
 
--- A job's work at n is the number of entries before n that name it.
+-- A job's work at n: the number of entries before n that name it.
 unfoldable pub work : List Entry → ℕ → ℕ → ℕ
 work run u zero = 0
 work run u (suc n) = work run u n + cond (names (entryAt run n) u) 1 0
 
--- With the run goes one running time for each job.
+-- The running time of a job, of which one for each job goes with the run.
 unfoldable pub timeAt : List ℕ → ℕ → ℕ
 timeAt times u = getD times u 0
 
@@ -38,12 +29,12 @@ timeAt times u = getD times u 0
 abbrev pub Complete : List ℕ → List Entry → ℕ → ℕ → Type 0
 Complete times run u n = work run u n ≡ timeAt times u
 
--- Its predecessor, where it has one, is complete.
+-- A job's predecessor, where it has one, is complete at n.
 abbrev pub PredecessorComplete : Table → List ℕ → List Entry → ℕ → ℕ → Type 0
 PredecessorComplete t times run zero n = Unit {0}
 PredecessorComplete t times run (suc v) n = t .chain v ≡ t .chain (suc v) → Complete times run v n
 
--- It is ready at n if its release is at most n, it is not complete, and its predecessor, where it has one, is complete.
+-- A job is ready at n if its release is at most n, it is not complete, and its predecessor is complete.
 pub record Ready (t : Table) (release : ℕ → ℕ) (times : List ℕ) (run : List Entry) (u n : ℕ) : Type 0 where
   pub released : release u ≤ n
   pub unfinished : Complete times run u n → ⊥
@@ -57,22 +48,22 @@ LegalEntry t release times run n (runs u) =
     × Ready t release times run u n
     × ((v : ℕ) → v < t .count → Ready t release times run v n → t .urgency v ≤ t .urgency u)
 
--- So is each entry of the run.
+-- Each entry of the run is such.
 abbrev pub Legal : Table → (ℕ → ℕ) → List ℕ → List Entry → Type 0
 Legal t release times run = (n : ℕ) → n < length run → LegalEntry t release times run n (entryAt run n)
 
--- One running time for each job, from its least to its most.
+-- The running times are one for each job, from its least to its most.
 pub record Times (t : Table) (times : List ℕ) : Type 0 where
   pub each : length times ≡ t .count
   pub low : (u : ℕ) → u < t .count → t .least u ≤ timeAt times u
   pub high : (u : ℕ) → u < t .count → timeAt times u ≤ t .most u
 
--- One release for each job, from its earliest to its latest: the effective release, where one is given.
+-- The releases are one for each job, from its earliest to its latest: the effective release, where one is given.
 pub record Releases (t : Table) (release : ℕ → ℕ) : Type 0 where
   pub early : (u : ℕ) → u < t .count → t .earliest u ≤ release u
   pub late : (u : ℕ) → u < t .count → release u ≤ t .latest u
 
--- A run of demand 3; the pick among equals is free at every tick.
+-- A run of demand 3: times and releases in range, and legal entries, where the pick among equals is free at every tick.
 pub record Run (t : Table) (release : ℕ → ℕ) (times : List ℕ) (run : List Entry) : Type 0 where
   pub releases : Releases t release
   pub inRange : Times t times

@@ -1,9 +1,10 @@
--- A table of jobs, as the rules read it: place by place, from 0, in table order. Releases says how it is made from job records.
---   Table    how many jobs there are and, by place, their chain, urgency, least and most time, earliest and latest release
---   joined   whether the job at a place and the next one are of one chain
--- Assumes nothing.
-use Rattle.laws.specs.Words.{ℕ, suc, Bool, eqb}
+-- A table of jobs, as the rules read it: place by place from 0, in table order, with effective releases. Document 01, "Bounds", first paragraph.
+-- Only here do the rules know what a job's record holds. Assumes nothing.
+use Rattle.laws.specs.Words.{ℕ, zero, suc, _+_, max, Bool, cond, List, eqb, length}
+use Rattle.jobs.specs.declared.job.Job.{Job}
+use Rattle.jobs.specs.Jobs.{jobAt}
 
+-- How many jobs there are and, by place, the figures of each.
 pub record Table : Type 0 where
   pub count : ℕ
   pub chain : ℕ → ℕ
@@ -15,6 +16,55 @@ pub record Table : Type 0 where
   pub earliest : ℕ → ℕ
   pub latest : ℕ → ℕ
 
--- A chain's jobs stand next to each other, in the order of their numbers.
+-- Whether the job at a place and the next one are of one chain, whose jobs stand next to each other in the order of their numbers.
 unfoldable pub joined : Table → ℕ → Bool
 joined t i = eqb (t .chain i) (t .chain (suc i))
+
+-- The effective release: of a chain's first job the given one, of a later job the larger of that and its predecessor's effective release plus least.
+unfoldable pub effectiveEarliest : Table → ℕ → ℕ
+effectiveEarliest t zero = t .earliest 0
+effectiveEarliest t (suc i) =
+    let before = effectiveEarliest t i in
+    cond (joined t i) (max (t .earliest (suc i)) (before + t .least i)) (t .earliest (suc i))
+
+-- The larger of the given latest release and the effective earliest one: equal to that where a job is given one release.
+unfoldable pub effectiveLatest : Table → ℕ → ℕ
+effectiveLatest t i = max (t .latest i) (effectiveEarliest t i)
+
+-- A table with its releases made effective.
+abbrev pub effective : Table → Table
+effective t =
+    record {
+      count = t .count;
+      chain = t .chain;
+      urgency = t .urgency;
+      least = t .least;
+      most = t .most;
+      earliest = effectiveEarliest t;
+      latest = effectiveLatest t;
+    }
+
+-- How urgent a job is: its priority.
+abbrev pub urgencyOf : Job → ℕ
+urgencyOf j = j .priority
+
+-- The latest release that a job is given: its only one.
+abbrev pub latestOf : Job → ℕ
+latestOf j = j .release
+
+-- The table of a list of jobs, with the releases that are given.
+abbrev pub given : List Job → Table
+given js =
+    record {
+      count = length js;
+      chain = λ i. jobAt js i .chain;
+      urgency = λ i. urgencyOf (jobAt js i);
+      least = λ i. jobAt js i .least;
+      most = λ i. jobAt js i .most;
+      earliest = λ i. jobAt js i .release;
+      latest = λ i. latestOf (jobAt js i);
+    }
+
+-- The table that all bounds and runs of a list of jobs are about.
+abbrev pub tableOf : List Job → Table
+tableOf js = effective (given js)

@@ -14,7 +14,7 @@ use Rattle.table.specs.declared.reading.Reading.{Reading}
 use Rattle.table.specs.Tables.{readingOf}
 use Rattle.table.proofs.Accepting.{read-accepted}
 use Rattle.jobs.proofs.Accepted.{accepted}
-use Rattle.theory.specs.Releases.{tableOf}
+use Rattle.theory.specs.Table.{tableOf}
 use Rattle.theory.specs.Rounds.{itr}
 use Rattle.theory.proofs.Claims.{few-rounds}
 use Rattle.analysis.specs.declared.answer.Itr.{Itr}

@@ -9,7 +9,7 @@ use Rattle.jobs.specs.Limits.{maxJobs}
 use Rattle.jobs.specs.Jobs.{jobsOf}
 use Rattle.jobs.proofs.Sets.{length-jobs, job-at}
 use Rattle.jobs.proofs.Accepted.{accepted}
-use Rattle.theory.specs.Releases.{tableOf}
+use Rattle.theory.specs.Table.{tableOf}
 use Rattle.theory.proofs.Releases.{earliest-latest}
 use Rattle.theory.proofs.AcceptedSets.{accepted-ordered, accepted-latest}
 use Rattle.analysis.proofs.Gathered.{Gathered, gathered-none, gathered-earliest, gathered-next, gathered-all, gathered-ended}

@@ -1,6 +1,7 @@
 -- `best_after` meets its contract. Assumes nothing.
 use mathlib.Core.Path.{sym, _∙_}
 use borrow.Author.Needs.{needs}
+use Rattle.lent.specs.Scans.{bestBy}
 use Rattle.lent.proofs.scan.best_after.Statement.{statement}
 use Rattle.lent.proofs.scan.best_after.Tie as tie
 
@@ -11,10 +12,12 @@ better-of-requires : tie.Need-better-of-requires
 better-of-requires c κs = search needs
 
 returns : tie.Need-returns
+unfolding bestBy
 returns c = simp (sym (c .before .before .is-ready-record .ensures) ∙ c .before .if1 .taken) (c .better-of .ensures)
 
 returns-2 : tie.Need-returns-2
-returns-2 c = simp (sym (c .before .is-ready-record .ensures) ∙ c .if1 .left)
+unfolding bestBy
+returns-2 c = simp (sym (c .before .before .is-ready-record .ensures) ∙ c .before .if1 .left)
 
 pub best-after-spec : {M : Type 1} → statement M
 best-after-spec =

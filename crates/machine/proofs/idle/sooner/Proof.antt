@@ -1,5 +1,5 @@
 -- `sooner` answers the definition of the same name. Assumes nothing.
-use mathlib.Core.Path.{_≡_, sym, _∙_}
+use mathlib.Core.Path.{sym}
 use native.Mathlib.Omega.{arith}
 use Rattle.machine.proofs.Idling.{sooner-past, sooner-later}
 use Rattle.machine.proofs.idle.sooner.Statement.{statement}

@@ -3,9 +3,8 @@ use Prim.Native.Nat.{_≤_, _-_}
 use mathlib.Core.Path.{_≡_, refl, _∙_}
 use native.Mathlib.Omega.{arith}
 use borrow.Author.Needs.{needs}
-use Rattle.machine.specs.Pick.{pickUpTo}
+use Rattle.machine.specs.Pick.{pickUpTo, bestOf}
 use Rattle.machine.specs.Private.{seen, stateOf}
-use Rattle.machine.specs.Best.{bestOf}
 use Rattle.machine.proofs.Picks.{considered-next}
 use Rattle.machine.proofs.pick.best_of.Statement.{statement}
 use Rattle.machine.proofs.pick.best_of.Tie as tie

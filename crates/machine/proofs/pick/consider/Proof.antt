@@ -2,8 +2,7 @@
 use mathlib.Core.Path.{sym, _∙_}
 use borrow.Author.Tests.{not-true, not-false}
 use borrow.Author.Needs.{needs}
-use Rattle.machine.specs.Private.{stateOf}
-use Rattle.machine.specs.Best.{considered}
+use Rattle.machine.specs.Private.{stateOf, considered}
 use Rattle.machine.proofs.Readiness.{ready-seen}
 use Rattle.machine.proofs.pick.consider.Statement.{statement}
 use Rattle.machine.proofs.pick.consider.Tie as tie

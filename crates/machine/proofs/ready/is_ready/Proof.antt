@@ -3,7 +3,7 @@ use mathlib.Core.List.{[]}
 use mathlib.Core.Path.{sym, _∙_}
 use borrow.Author.Tests.{le-leb}
 use borrow.Author.Needs.{needs}
-use Rattle.machine.specs.Ready.{ready}
+use Rattle.machine.specs.States.{ready}
 use Rattle.machine.proofs.Readiness.{early-not-ready, predecessor-seen}
 use Rattle.machine.proofs.ready.is_ready.Statement.{statement}
 use Rattle.machine.proofs.ready.is_ready.Tie as tie

@@ -8,7 +8,7 @@ use denote.Ref.{now}
 use Rattle.jobs.specs.Limits.{maxJobs}
 use Rattle.jobs.specs.Jobs.{jobsOf}
 use Rattle.jobs.proofs.Sets.{length-jobs}
-use Rattle.theory.specs.Releases.{tableOf}
+use Rattle.theory.specs.Table.{tableOf}
 use Rattle.machine.proofs.Ticking.{passed-early, passed-within, prepared-few, prepared-times, advance-none, advance-room, advance-inside, advance-work, advance-ran, advance-all, tick-finished, tick-idle}
 use Rattle.machine.proofs.step.advance.Statement.{statement}
 use Rattle.machine.proofs.step.advance.Tie as tie
@@ -48,17 +48,17 @@ mul-next-2 c = omega (arith, room (c .before .before) (c .before .if1 .taken))
 element-write-next : tie.Need-element-write-next
 element-write-next c = room (c .before .before) (c .before .if1 .taken)
 
-mul-t21 : tie.Need-mul-t21
-mul-t21 c = omega (arith, room (c .before .before) (c .before .if1 .taken))
+mul-t22 : tie.Need-mul-t22
+mul-t22 c = omega (arith, room (c .before .before) (c .before .if1 .taken))
 
-element-copy-out-t20 : tie.Need-element-copy-out-t20
-element-copy-out-t20 c = room (c .before .before) (c .before .if1 .taken)
+element-copy-out-t21 : tie.Need-element-copy-out-t21
+element-copy-out-t21 c = room (c .before .before) (c .before .if1 .taken)
 
-mul-t25 : tie.Need-mul-t25
-mul-t25 c = omega (arith, room (c .before .before) (c .before .if1 .taken))
+mul-t26 : tie.Need-mul-t26
+mul-t26 c = omega (arith, room (c .before .before) (c .before .if1 .taken))
 
-element-copy-out-t24 : tie.Need-element-copy-out-t24
-element-copy-out-t24 c = room (c .before .before) (c .before .if1 .taken)
+element-copy-out-t25 : tie.Need-element-copy-out-t25
+element-copy-out-t25 c = room (c .before .before) (c .before .if1 .taken)
 
 returns : tie.Need-returns
 returns c = let a = c .before .before .before .before .before .before .before .before .before .before .before .before .args in sym (advance-ran (a .t2) (a .columns) _ (c .before .before .before .before .before .before .before .before .before .before .before .before .pre .0) (a .state) _ (c .before .before .best-of .ensures) (c .before .if1 .taken))
@@ -86,10 +86,10 @@ advance-spec =
     add-next-2
     mul-next-2
     element-write-next
-    mul-t21
-    element-copy-out-t20
-    mul-t25
-    element-copy-out-t24
+    mul-t22
+    element-copy-out-t21
+    mul-t26
+    element-copy-out-t25
     returns
     are-complete-requires
     returns-2

@@ -5,7 +5,7 @@ use mathlib.Core.Bool.{true}
 use native.Mathlib.Omega.{arith}
 use borrow.Author.Needs.{needs}
 use Rattle.jobs.specs.Jobs.{jobsOf}
-use Rattle.theory.specs.Releases.{tableOf}
+use Rattle.theory.specs.Table.{tableOf}
 use Rattle.laws.specs.Words.{everyBelow}
 use Rattle.machine.specs.Times.{inRange}
 use Rattle.machine.proofs.Every.{every-none, every-next}

@@ -11,7 +11,7 @@ use Rattle.jobs.specs.Limits.{maxJobs}
 use Rattle.jobs.specs.Jobs.{jobsOf}
 use Rattle.jobs.proofs.Sets.{length-jobs, job-at}
 use Rattle.jobs.specs.declared.job.Job.{Job}
-use Rattle.theory.specs.Releases.{tableOf}
+use Rattle.theory.specs.Table.{tableOf}
 use Rattle.theory.specs.Runs.{runs}
 use Rattle.machine.specs.declared.trace.Put.{Put}
 use Rattle.machine.specs.States.{lastTime}
