@@ -1,4 +1,4 @@
--- The claim of specs/Analysis about the number of rounds. Assumes nothing.
+-- The claim of specs/Answers about the number of rounds. Assumes nothing.
 use mathlib.Core.Path.{_≡_, sym, subst}
 use Rattle.jobs.specs.declared.set.JobSet.{JobSet}
 use Rattle.jobs.specs.declared.refusal.Check.the-variants.{Passed}
@@ -7,7 +7,7 @@ use Rattle.jobs.specs.Checks.{checkOf}
 use Rattle.theory.specs.Table.{tableOf}
 use Rattle.theory.specs.Rounds.{itr}
 use Rattle.theory.proofs.Claims.{demand-3, few-rounds}
-use Rattle.analysis.specs.Analysis.{itrOf, Counted, RoundsCounted}
+use Rattle.analysis.specs.Answers.{itrOf, Counted, RoundsCounted}
 
 rounds-are : (set : JobSet) → checkOf (jobsOf set) ≡ Passed → itrOf set .rounds ≡ itr (tableOf (jobsOf set)) .rounds
 unfolding itrOf

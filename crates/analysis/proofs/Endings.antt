@@ -13,7 +13,7 @@ use lib.ListN.{length, getD, set, length-set}
 use lib.Seq.{getD-set-same, getD-set-other}
 use borrow.Author.Tests.{eq-eqb, ne-eqb}
 use Rattle.laws.proofs.Tests.{by-test, by-order, by-equal}
-use Rattle.analysis.specs.Kernel.{First, EndsAt}
+use Rattle.analysis.specs.Private.{First, EndsAt}
 use Rattle.analysis.proofs.Prior.{prior}
 
 pub record Heads (chain : ℕ → ℕ) (i first : ℕ) (ends : List ℕ) : Type 0 where

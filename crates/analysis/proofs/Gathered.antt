@@ -15,7 +15,7 @@ use Rattle.jobs.specs.Jobs.{jobAt}
 use Rattle.theory.specs.Table.{Table, effectiveEarliest, effectiveLatest, given, tableOf}
 use Rattle.theory.proofs.WellFormed.{Ordered, chain-le}
 use Rattle.analysis.specs.declared.columns.Columns.{Columns}
-use Rattle.analysis.specs.Kernel.{notBefore, columnsOf, Ended}
+use Rattle.analysis.specs.Private.{notBefore, columnsOf, Ended}
 use Rattle.analysis.proofs.Prior.{prior, prior-none, prior-next}
 use Rattle.analysis.proofs.Predecessors.{release-by}
 use Rattle.analysis.proofs.Endings.{Heads, heads-none, heads-next, ends-same}

@@ -15,7 +15,7 @@ use Rattle.theory.specs.Rounds.{overlap, round}
 use Rattle.theory.proofs.Interference.{interference-same}
 use Rattle.theory.proofs.Overlaps.{overlap-by}
 use Rattle.theory.proofs.Monotone.{pairs-mono}
-use Rattle.analysis.specs.Kernel.{lent, Fit, weightOf, spanned}
+use Rattle.analysis.specs.Private.{lent, Fit, weightOf, spanned}
 use Rattle.analysis.proofs.Unread.{interference-unread}
 
 abbrev pub late : List ℕ

@@ -22,7 +22,7 @@ use Rattle.theory.proofs.Releases.{earliest-latest}
 use Rattle.theory.proofs.AcceptedSets.{accepted-ordered, accepted-most, accepted-latest}
 use Rattle.theory.proofs.Agreement.{Agree, SameAnswers, agree-same}
 use Rattle.analysis.specs.declared.columns.Columns.{Columns}
-use Rattle.analysis.specs.Kernel.{lent, Fit, columnsOf}
+use Rattle.analysis.specs.Private.{lent, Fit, columnsOf}
 use Rattle.analysis.proofs.Unread.{bare, ert-bare, cja-bare, itr-bare}
 
 abbrev pub lentBy : ℕ → Columns → Table

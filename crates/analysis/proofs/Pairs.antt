@@ -21,7 +21,7 @@ use Rattle.theory.specs.Rounds.{overlap}
 use Rattle.theory.proofs.WellFormed.{Ordered, chain-between}
 use Rattle.theory.proofs.Rules.{demand-one, demand-front, lowest-one, lowest-front, pairs-least}
 use Rattle.theory.proofs.Interference.{outside, interference-most}
-use Rattle.analysis.specs.Kernel.{lent, weightOf, spanned}
+use Rattle.analysis.specs.Private.{lent, weightOf, spanned}
 use Rattle.analysis.proofs.Weights.{weight-le}
 use Rattle.analysis.proofs.Unread.{interference-unread}
 

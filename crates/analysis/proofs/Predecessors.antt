@@ -6,7 +6,7 @@ use lib.Dec.{eqb}
 use Rattle.laws.proofs.Tests.{by-test}
 use Rattle.theory.specs.Table.{Table, joined, effectiveEarliest}
 use Rattle.theory.specs.Bounds.{ertRule}
-use Rattle.analysis.specs.Kernel.{notBefore}
+use Rattle.analysis.specs.Private.{notBefore}
 use Rattle.analysis.proofs.Prior.{prior}
 
 module _ (t : Table) where

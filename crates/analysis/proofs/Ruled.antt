@@ -10,7 +10,7 @@ use Rattle.laws.proofs.Filling.{filled-none, filled-next}
 use Rattle.jobs.specs.Limits.{maxJobs, maxRelease, maxTime}
 use Rattle.theory.specs.Table.{Table}
 use Rattle.theory.specs.Bounds.{ertRule}
-use Rattle.analysis.specs.Kernel.{Fit, notBefore, column}
+use Rattle.analysis.specs.Private.{Fit, notBefore, column}
 use Rattle.analysis.proofs.Prior.{prior, prior-none, prior-next}
 use Rattle.analysis.proofs.Predecessors.{ert-by, not-before-limit}
 

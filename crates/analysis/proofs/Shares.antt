@@ -19,7 +19,7 @@ use Rattle.theory.specs.Interference.{largestBlock, chains, interference}
 use Rattle.theory.proofs.WellFormed.{Ordered, chain-le}
 use Rattle.theory.proofs.Chains.{chain-most}
 use Rattle.theory.proofs.Blocks.{largest-rest}
-use Rattle.analysis.specs.Kernel.{largestOver, First, EndsAt}
+use Rattle.analysis.specs.Private.{largestOver, First, EndsAt}
 use Rattle.analysis.proofs.Stretches.{largest-small, largest-over}
 
 unfoldable pub share : Table → ℕ → ℕ → (ℕ → ℕ) → ℕ → ℕ → ℕ

@@ -10,7 +10,7 @@ use Rattle.laws.proofs.Tests.{by-order}
 use Rattle.theory.specs.Table.{Table}
 use Rattle.theory.specs.Interference.{openBlock, largestBlock}
 use Rattle.theory.proofs.Blocks.{block-on, block-ends, largest-step, open-largest}
-use Rattle.analysis.specs.Kernel.{opened, openOver, largestOver}
+use Rattle.analysis.specs.Private.{opened, openOver, largestOver}
 
 pub record Blocked (urgency : ℕ → ℕ) (target : ℕ) (w : ℕ → ℕ) (first end i block largest : ℕ) : Type 0 where
   pub after : first ≤ i

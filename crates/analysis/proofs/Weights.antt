@@ -4,7 +4,7 @@ use mathlib.Core.Bool.{_&&_}
 use native.Mathlib.Omega.{arith}
 use lib.Dec.{ltb}
 use Rattle.laws.proofs.Tests.{by-test}
-use Rattle.analysis.specs.Kernel.{weightOf}
+use Rattle.analysis.specs.Private.{weightOf}
 
 pub weight-le : (from to most release bound : ℕ) → weightOf from to most release bound ≤ most
 unfolding weightOf

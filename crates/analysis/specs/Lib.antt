@@ -1,2 +1,2 @@
-pub mod Analysis
-pub mod Kernel
+pub mod Answers
+pub mod Private

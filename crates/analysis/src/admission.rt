@@ -1,6 +1,6 @@
 // Admission of a further chain.
 ghost use Rattle.laws.specs.Words.{_≡_};
-ghost use Rattle.analysis.specs.Analysis.{admitted as Analysis·admitted, admissionOf};
+ghost use Rattle.analysis.specs.Answers.{admitted as Analysis·admitted, admissionOf};
 use crate::answer::Admission;
 use crate::answer::Verdict;
 use crate::verdict::accepted_verdict;

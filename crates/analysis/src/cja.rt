@@ -5,7 +5,7 @@ ghost use Rattle.jobs.specs.Jobs.{jobsOf};
 ghost use Rattle.jobs.specs.Checks.{checkOf};
 ghost use Rattle.theory.specs.Table.{tableOf};
 ghost use Rattle.theory.specs.Bounds.{cja as Theory·cja};
-ghost use Rattle.analysis.specs.Analysis.{cjaOf};
+ghost use Rattle.analysis.specs.Answers.{cjaOf};
 use crate::answer::Bounds;
 use crate::columns::columns_of;
 use crate::round::round;

@@ -4,7 +4,7 @@ ghost use Rattle.jobs.specs.declared.refusal.Check.{Check};
 ghost use Rattle.jobs.specs.Jobs.{jobsOf};
 ghost use Rattle.jobs.specs.Checks.{checkOf};
 ghost use Rattle.theory.specs.Table.{tableOf};
-ghost use Rattle.analysis.specs.Kernel.{columnsOf, Ended};
+ghost use Rattle.analysis.specs.Private.{columnsOf, Ended};
 use crate::number::larger;
 use crate::predecessor::not_before;
 use jobs::set::JobSet;

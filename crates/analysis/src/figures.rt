@@ -1,6 +1,6 @@
 // All figures of a set at once, with one run of ITR.
 ghost use Rattle.laws.specs.Words.{_≡_};
-ghost use Rattle.analysis.specs.Analysis.{figuresOf};
+ghost use Rattle.analysis.specs.Answers.{figuresOf};
 use crate::answer::Figures;
 use crate::cja::accepted_cja;
 use crate::ert::accepted_ert;

@@ -1,7 +1,7 @@
 // How long the jobs of other chains can hold up a pair, chain by chain.
 ghost use Rattle.laws.specs.Words.{_≡_};
 ghost use Rattle.theory.specs.Interference.{interference as Theory·interference};
-ghost use Rattle.analysis.specs.Kernel.{lent, Fit, Ended, spanned};
+ghost use Rattle.analysis.specs.Private.{lent, Fit, Ended, spanned};
 use crate::block::share;
 use jobs::set::JobSet;
 

@@ -1,6 +1,6 @@
 // The largest sum over the pairs that end with one job.
 ghost use Rattle.laws.specs.Words.{_≡_, _<_};
-ghost use Rattle.analysis.specs.Kernel.{lent, Fit, Ended, roundAt};
+ghost use Rattle.analysis.specs.Private.{lent, Fit, Ended, roundAt};
 use crate::interference::interference;
 use crate::number::larger;
 use crate::number::lower;

@@ -2,7 +2,7 @@
 ghost use Rattle.laws.specs.Words.{_≡_, padded};
 ghost use Rattle.jobs.specs.Limits.{maxJobs};
 ghost use Rattle.theory.specs.Rounds.{round as Theory·round};
-ghost use Rattle.analysis.specs.Kernel.{lent, Fit, Ended};
+ghost use Rattle.analysis.specs.Private.{lent, Fit, Ended};
 use crate::pair::largest_pair;
 use jobs::set::JobSet;
 

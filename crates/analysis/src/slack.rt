@@ -7,7 +7,7 @@ ghost use Rattle.theory.specs.Table.{tableOf};
 ghost use Rattle.theory.specs.Bounds.{boundLimit};
 ghost use Rattle.theory.specs.Rounds.{itr as Theory·itr};
 ghost use Rattle.theory.specs.Verdicts.{slack as Theory·slack, slacks as Theory·slacks};
-ghost use Rattle.analysis.specs.Analysis.{slacksOf};
+ghost use Rattle.analysis.specs.Answers.{slacksOf};
 use crate::answer::Slacks;
 use crate::itr::accepted_itr;
 use jobs::check::check;

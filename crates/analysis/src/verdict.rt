@@ -4,7 +4,7 @@ ghost use Rattle.jobs.specs.Limits.{maxJobs};
 ghost use Rattle.jobs.specs.Jobs.{jobsOf};
 ghost use Rattle.jobs.specs.Checks.{checkOf};
 ghost use Rattle.theory.specs.Verdicts.{meets as Theory·meets};
-ghost use Rattle.analysis.specs.Analysis.{verdictIs, verdictBy, verdictOf};
+ghost use Rattle.analysis.specs.Answers.{verdictIs, verdictBy, verdictOf};
 use crate::answer::Verdict;
 use crate::cja::accepted_cja;
 use crate::ert::accepted_ert;

@@ -10,7 +10,7 @@ use Rattle.theory.specs.Table.{tableOf}
 use Rattle.theory.specs.Rounds.{itr}
 use Rattle.analysis.specs.declared.answer.Verdict.{Verdict}
 use Rattle.analysis.specs.declared.answer.Verdict.the-variants.{Yes, No, Refused}
-use Rattle.analysis.specs.Analysis.{verdictAfter, verdictBy}
+use Rattle.analysis.specs.Answers.{verdictAfter, verdictBy}
 use Rattle.report.specs.declared.written.Written.{Written}
 use Rattle.report.specs.declared.written.Written.the-variants.{Bytes, Refused as Unwritten}
 

@@ -11,8 +11,7 @@ use lib.ListN.{length, getD, length-append, List·getD-eq-default}
 use borrow.Author.Tests.{ltb-true, ltb-false}
 use Rattle.laws.proofs.Tests.{by-test}
 use Rattle.laws.proofs.Tabulate.{getD-tabulate}
-use Rattle.decimal.specs.Digits.{decimal}
-use Rattle.decimal.specs.Signed.{signed}
+use Rattle.decimal.specs.Digits.{decimal, signed}
 use Rattle.decimal.proofs.Counts.{count-within}
 use Rattle.decimal.proofs.Values.{length-decimal}
 use Rattle.jobs.specs.declared.job.Job.{Job}
@@ -21,7 +20,7 @@ use Rattle.jobs.specs.Limits.{maxJobs, maxChains, maxDeadline}
 use Rattle.jobs.specs.Jobs.{noJob, jobAt}
 use Rattle.jobs.specs.Checks.{checkOf}
 use Rattle.jobs.proofs.Accepted.{Accepted, accepted}
-use Rattle.theory.specs.Releases.{tableOf}
+use Rattle.theory.specs.Table.{tableOf}
 use Rattle.theory.specs.Bounds.{boundAt, ert, cja, boundLimit}
 use Rattle.theory.specs.Rounds.{itr}
 use Rattle.theory.specs.Verdicts.{slack, slacks}
@@ -31,10 +30,7 @@ use Rattle.machine.specs.States.{lastTime}
 use Rattle.machine.specs.Traces.{row, traced}
 use Rattle.machine.proofs.SpanTimes.{EndedBy, spans-ended}
 use Rattle.machine.proofs.Claims.{trace-within-twice}
-use Rattle.report.specs.Columns.{columnText, columnsFrom, columnsText}
-use Rattle.report.specs.Refusals.{lineEnd}
-use Rattle.report.specs.Rows.{boundsRow, boundsRows}
-use Rattle.report.specs.Entries.{spanText, spansText}
+use Rattle.report.specs.Rows.{columnText, columnsFrom, columnsText, boundsRow, boundsRows, spanText, spansText, lineEnd}
 use Rattle.report.specs.Texts.{boundsHeader, boundsText, mostTimes, traceHeader, traceText}
 use Rattle.report.specs.Claims.{maxBytes, Fits, TextsFit}
 use Rattle.report.proofs.RowTexts.{rowValues, row-length}

@@ -16,7 +16,7 @@ use Rattle.jobs.specs.Jobs.{jobsOf}
 use Rattle.jobs.specs.Checks.{checkOf}
 use Rattle.jobs.proofs.Sets.{length-jobs, job-at}
 use Rattle.analysis.specs.declared.answer.Figures.{Figures}
-use Rattle.analysis.specs.Analysis.{figuresWith, figuresOf}
+use Rattle.analysis.specs.Answers.{figuresWith, figuresOf}
 use Rattle.theory.specs.Table.{tableOf}
 use Rattle.theory.specs.Bounds.{ert, cja}
 use Rattle.theory.specs.Rounds.{itr}

@@ -18,7 +18,7 @@ use Rattle.theory.specs.Table.{tableOf}
 use Rattle.theory.specs.Rounds.{itr}
 use Rattle.theory.proofs.Claims.{few-rounds}
 use Rattle.analysis.specs.declared.answer.Itr.{Itr}
-use Rattle.analysis.specs.Analysis.{itrOf}
+use Rattle.analysis.specs.Answers.{itrOf}
 use Rattle.cudlomer.specs.Codes.{roundsOfTable}
 use Rattle.cudlomer.proofs.cudlomer_rounds.Statement.{statement}
 use Rattle.cudlomer.proofs.cudlomer_rounds.Tie as tie

@@ -9,7 +9,7 @@ use Rattle.jobs.specs.Checks.{checkOf}
 use Rattle.table.specs.declared.reading.Reading.{Reading}
 use Rattle.table.specs.Tables.{readingOf}
 use Rattle.table.proofs.Accepting.{read-accepted}
-use Rattle.analysis.specs.Analysis.{verdictOf}
+use Rattle.analysis.specs.Answers.{verdictOf}
 use Rattle.cudlomer.specs.Codes.{verdictCode, verdictOfTable}
 use Rattle.cudlomer.proofs.cudlomer_verdict.Statement.{statement}
 use Rattle.cudlomer.proofs.cudlomer_verdict.Tie as tie

@@ -7,7 +7,7 @@ use Rattle.jobs.specs.Jobs.{jobsOf, setOf}
 use Rattle.jobs.specs.Joins.{withChain}
 use Rattle.jobs.specs.declared.set.JobSet.{JobSet}
 use Rattle.analysis.specs.declared.answer.Verdict.{Verdict}
-use Rattle.analysis.specs.Analysis.{admitted, admissionOf, verdictBy}
+use Rattle.analysis.specs.Answers.{admitted, admissionOf, verdictBy}
 use Rattle.analysis.proofs.Joining.{joined-check, joined-passes, joined-set, joined-jobs, joined-accepted}
 use Rattle.analysis.proofs.admission.admit.Statement.{statement}
 use Rattle.analysis.proofs.admission.admit.Tie as tie

@@ -8,7 +8,7 @@ use Rattle.jobs.specs.Limits.{maxTime}
 use Rattle.theory.specs.Table.{Table}
 use Rattle.theory.specs.Interference.{interference}
 use Rattle.theory.specs.Bounds.{boundLimit, ertRule, interferenceAt, ert}
-use Rattle.analysis.specs.Kernel.{lent, spanned, column}
+use Rattle.analysis.specs.Private.{lent, spanned, column}
 use Rattle.analysis.proofs.Pairs.{delay-limit}
 use Rattle.analysis.proofs.Late.{late, delay-late}
 use Rattle.analysis.proofs.Ruled.{Ruled, ruled-none, ruled-time, ruled-next}

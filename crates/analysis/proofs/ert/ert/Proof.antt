@@ -5,7 +5,7 @@ use mathlib.Core.List.{List}
 use borrow.Author.Needs.{needs}
 use Rattle.jobs.specs.declared.refusal.Check.the-variants.{Passed}
 use Rattle.analysis.specs.declared.answer.Bounds.{Bounds}
-use Rattle.analysis.specs.Analysis.{ertOf}
+use Rattle.analysis.specs.Answers.{ertOf}
 use Rattle.analysis.proofs.ert.ert.Statement.{statement}
 use Rattle.analysis.proofs.ert.ert.Tie as tie
 

@@ -13,7 +13,7 @@ use Rattle.theory.specs.Table.{tableOf}
 use Rattle.theory.specs.Bounds.{ert, cja}
 use Rattle.analysis.specs.declared.answer.Itr.{Itr}
 use Rattle.analysis.specs.declared.answer.Figures.{Figures}
-use Rattle.analysis.specs.Analysis.{figuresOf}
+use Rattle.analysis.specs.Answers.{figuresOf}
 use Rattle.analysis.proofs.figures.figures.Statement.{statement}
 use Rattle.analysis.proofs.figures.figures.Tie as tie
 

@@ -8,7 +8,7 @@ use lib.ListN.{getD}
 use borrow.Author.Needs.{needs}
 use Rattle.jobs.specs.Limits.{maxTime}
 use Rattle.theory.specs.Table.{Table}
-use Rattle.analysis.specs.Kernel.{lent, spanned, largestOver, EndsAt}
+use Rattle.analysis.specs.Private.{lent, spanned, largestOver, EndsAt}
 use Rattle.analysis.proofs.Weights.{weight-le}
 use Rattle.analysis.proofs.Shares.{Shared, shared-none, shared-next, shared-all}
 use Rattle.analysis.proofs.interference.interference.Statement.{statement}

@@ -2,7 +2,7 @@
 use mathlib.Core.Path.{ap, _∙_}
 use borrow.Author.Needs.{needs}
 use Rattle.jobs.specs.declared.refusal.Check.the-variants.{Passed}
-use Rattle.analysis.specs.Analysis.{itrWith}
+use Rattle.analysis.specs.Answers.{itrWith}
 use Rattle.analysis.proofs.Lent.{lends}
 use Rattle.analysis.proofs.itr.accepted_itr.Statement.{statement}
 use Rattle.analysis.proofs.itr.accepted_itr.Tie as tie

@@ -1,7 +1,7 @@
 -- `itr` answers `itrOf`: the set's refusal, or its bounds and rounds. Assumes nothing.
 use mathlib.Core.Path.{sym, _∙_}
 use borrow.Author.Needs.{needs}
-use Rattle.analysis.specs.Analysis.{itrOf}
+use Rattle.analysis.specs.Answers.{itrOf}
 use Rattle.analysis.proofs.itr.itr.Statement.{statement}
 use Rattle.analysis.proofs.itr.itr.Tie as tie
 

@@ -8,7 +8,7 @@ use Rattle.jobs.specs.Limits.{maxJobs}
 use Rattle.theory.specs.Table.{Table}
 use Rattle.theory.specs.Bounds.{cjaWith}
 use Rattle.theory.specs.Rounds.{round}
-use Rattle.analysis.specs.Kernel.{lent, roundAt, column}
+use Rattle.analysis.specs.Private.{lent, roundAt, column}
 use Rattle.analysis.proofs.round.round.Statement.{statement}
 use Rattle.analysis.proofs.round.round.Tie as tie
 

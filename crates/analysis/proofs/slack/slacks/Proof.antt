@@ -7,7 +7,7 @@ use Rattle.jobs.specs.Checks.{checkOf}
 use lib.IntN.{ℤ}
 use mathlib.Core.List.{List}
 use Rattle.analysis.specs.declared.answer.Itr.{Itr}
-use Rattle.analysis.specs.Analysis.{slacksOf}
+use Rattle.analysis.specs.Answers.{slacksOf}
 use Rattle.analysis.proofs.slack.slacks.Statement.{statement}
 use Rattle.analysis.proofs.slack.slacks.Tie as tie
 

@@ -12,7 +12,7 @@ use Rattle.jobs.specs.Checks.{checkOf}
 use Rattle.jobs.proofs.Sets.{length-jobs}
 use Rattle.jobs.proofs.Accepted.{accepted}
 use Rattle.analysis.specs.declared.answer.Itr.{Itr}
-use Rattle.analysis.specs.Analysis.{verdictIs, verdictBy}
+use Rattle.analysis.specs.Answers.{verdictIs, verdictBy}
 use Rattle.analysis.proofs.Meeting.{meets-set}
 use Rattle.analysis.proofs.verdict.accepted_verdict.Statement.{statement}
 use Rattle.analysis.proofs.verdict.accepted_verdict.Tie as tie

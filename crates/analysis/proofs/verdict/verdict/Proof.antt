@@ -1,7 +1,7 @@
 -- `verdict` answers `verdictOf`: the set's refusal, or the verdict on its jobs. Assumes nothing.
 use mathlib.Core.Path.{sym, _∙_}
 use borrow.Author.Needs.{needs}
-use Rattle.analysis.specs.Analysis.{verdictOf}
+use Rattle.analysis.specs.Answers.{verdictOf}
 use Rattle.analysis.proofs.verdict.verdict.Statement.{statement}
 use Rattle.analysis.proofs.verdict.verdict.Tie as tie
 

@@ -1,6 +1,6 @@
 -- `verdict_is` answers `verdictIs`. Assumes nothing.
 use mathlib.Core.Path.{sym, ap}
-use Rattle.analysis.specs.Analysis.{verdictIs}
+use Rattle.analysis.specs.Answers.{verdictIs}
 use Rattle.analysis.proofs.verdict.verdict_is.Statement.{statement}
 use Rattle.analysis.proofs.verdict.verdict_is.Tie as tie
 

@@ -1,14 +1,4 @@
--- What the contracts of the private functions speak of; no public promise cites it.
---   lent                         the table of the jobs whose figures stand in lent columns
---   Fit                          what the private functions ask of a table
---   roundAt                      the bound that a round gives the job at a place
---   weightOf, spanned            what a job counts in a pair, by its own figures and by its place
---   opened                       an open block after one more job
---   openOver, largestOver        the open and the largest block over places of one chain
---   First, EndsAt, Ended         where chains begin and end
---   notBefore                    a time of a job that does not come before one of its predecessor
---   column, columnsOf            a figure of each job in an array, and those of a table that the bounds are made from
--- Assumes nothing.
+-- What the contracts of private functions speak of; no public promise cites it. Assumes nothing.
 use Rattle.laws.specs.Words.{ℕ, zero, suc, _+_, _*_, _≤_, _<_, max, _≡_, _≢_, cond, _&&_, List, leb, ltb, eqb, getD, tabulate, padded}
 use Rattle.jobs.specs.Limits.{maxJobs, maxRelease, maxTime}
 use Rattle.theory.specs.Table.{Table}
@@ -16,7 +6,7 @@ use Rattle.theory.specs.Bounds.{largestPair}
 use Rattle.theory.specs.Rounds.{overlap}
 use Rattle.analysis.specs.declared.columns.Columns.{Columns}
 
--- The bounds do not read the least times.
+-- The table of the jobs whose figures stand in lent columns; the bounds do not read the least times.
 abbrev pub lent : ℕ → List ℕ → List ℕ → List ℕ → List ℕ → List ℕ → Table
 lent count chain urgency most earliest latest =
     record {
@@ -29,7 +19,7 @@ lent count chain urgency most earliest latest =
       latest = λ i. getD latest i 0;
     }
 
--- As many jobs as a set holds, in order of their chains, with most times and releases in their limits.
+-- A table of as many jobs as a set holds, in order of their chains, with most times and releases in their limits.
 pub record Fit (t : Table) : Type 0 where
   pub few : t .count ≤ maxJobs
   pub ordered : (i : ℕ) → suc i < t .count → t .chain i ≤ t .chain (suc i)
@@ -37,15 +27,15 @@ pub record Fit (t : Table) : Type 0 where
   pub early : (i : ℕ) → i < t .count → t .earliest i ≤ maxRelease + maxJobs * maxTime
   pub late : (i : ℕ) → i < t .count → t .latest i ≤ maxRelease + maxJobs * maxTime
 
--- The largest sum over the pairs that end with j, where the spans are by the previous bounds.
+-- The bound that a round gives the job at j: the largest sum over the pairs that end with it, where the spans are by the previous bounds.
 abbrev pub roundAt : Table → List ℕ → ℕ → ℕ
 roundAt t previous j = largestPair t (overlap t previous) j (suc j)
 
--- A job's most time where its span overlaps the one open at `from` and closed at `to`.
+-- What a job counts in a pair: its most time where its span overlaps the one open at `from` and closed at `to`.
 unfoldable pub weightOf : ℕ → ℕ → ℕ → ℕ → ℕ → ℕ
 weightOf from to most release bound = cond (ltb from bound && ltb release to) most 0
 
--- The same by place.
+-- The same by the place of the job.
 abbrev pub spanned : List ℕ → List ℕ → List ℕ → ℕ → ℕ → ℕ → ℕ
 spanned most earliest bound from to u = weightOf from to (getD most u 0) (getD earliest u 0) (getD bound u 0)
 

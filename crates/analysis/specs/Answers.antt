@@ -1,13 +1,5 @@
--- The answers of the public functions. Document 01, "Bounds", and the refusals of a set, of admission, and number 10.
---   boundsWith, ertOf, cjaOf   the bounds ERT and CJA of an accepted set, or the refusal and no bounds
---   itrWith, itrOf             the ITR bounds and the number of rounds, or the refusal, no bounds and no round
---   slacksWith, slacksOf       the slacks, or the refusal and none
---   figuresWith, figuresOf     all of these at once
---   verdictIs, verdictBy       yes or no, and the verdict on accepted jobs by the algorithm 1 ERT, 2 CJA or 3 ITR, else refusal 10
---   verdictAfter, verdictOf    the verdict on a set: its own refusals come first
---   admitted, admissionOf      admission: the joined set on yes, the old set on no and on a refusal
---   Counted, RoundsCounted     what the number of rounds in the ITR answer is, for every accepted set; proved in proofs/Claims
--- Unused places of an answer are 0. Assumes nothing.
+-- The answers of the public functions. Document 01, "Bounds", the refusals of a set and of admission, and number 10. Unused places of an answer are 0.
+-- Assumes nothing.
 use Rattle.laws.specs.Words.{ℕ, _≤_, _<_, max, _≡_, Bool, true, false, cond, List, [], eqb, ℤ, pos, length, padded}
 use Rattle.jobs.specs.declared.job.Job.{Job}
 use Rattle.jobs.specs.declared.set.JobSet.{JobSet}
@@ -31,7 +23,7 @@ use Rattle.analysis.specs.declared.answer.Verdict.{Verdict}
 use Rattle.analysis.specs.declared.answer.Verdict.the-variants.{Yes, No, Refused}
 use Rattle.analysis.specs.declared.answer.Admission.{Admission}
 
--- Bounds in an answer, one for each job and 0 beyond; none on a refusal.
+-- ERT or CJA bounds in an answer; none on a refusal.
 abbrev pub boundsWith : Check → List ℕ → Bounds
 boundsWith Passed bounds = record { check = Passed; bounds = padded maxJobs 0 bounds }
 boundsWith (Stopped refusal) bounds = record { check = Stopped refusal; bounds = padded maxJobs 0 [] }
@@ -44,7 +36,7 @@ ertOf set = boundsWith (checkOf (jobsOf set)) (ert (tableOf (jobsOf set)))
 unfoldable pub cjaOf : JobSet → Bounds
 cjaOf set = boundsWith (checkOf (jobsOf set)) (cja (tableOf (jobsOf set)))
 
--- The ITR answer: its bounds, and how many rounds there were.
+-- The ITR bounds and the number of rounds in an answer; neither on a refusal.
 abbrev pub itrWith : Check → Answer → Itr
 itrWith Passed answer = record { check = Passed; bounds = padded maxJobs 0 (answer .bounds); rounds = answer .rounds }
 itrWith (Stopped refusal) answer = record { check = Stopped refusal; bounds = padded maxJobs 0 []; rounds = 0 }
@@ -53,7 +45,7 @@ itrWith (Stopped refusal) answer = record { check = Stopped refusal; bounds = pa
 unfoldable pub itrOf : JobSet → Itr
 itrOf set = itrWith (checkOf (jobsOf set)) (itr (tableOf (jobsOf set)))
 
--- Slacks in an answer, one for each job and 0 beyond; none on a refusal.
+-- Slacks in an answer; none on a refusal.
 abbrev pub slacksWith : Check → List ℤ → Slacks
 slacksWith Passed each = record { check = Passed; slacks = padded maxJobs (pos 0) each }
 slacksWith (Stopped refusal) each = record { check = Stopped refusal; slacks = padded maxJobs (pos 0) [] }
@@ -94,7 +86,7 @@ abbrev pub verdictIs : Bool → Verdict
 verdictIs true = Yes
 verdictIs false = No
 
--- The verdict on accepted jobs: whether each bound is at or before its job's deadline.
+-- The verdict on accepted jobs by 1 ERT, 2 CJA or 3 ITR: whether each bound is at or before its job's deadline.
 unfoldable pub verdictBy : List Job → ℕ → Verdict
 verdictBy js algorithm =
     cond (eqb algorithm 1) (verdictIs (meets js (ert (tableOf js)) (length js)))
@@ -102,16 +94,16 @@ verdictBy js algorithm =
     (cond (eqb algorithm 3) (verdictIs (meets js (itr (tableOf js) .bounds) (length js)))
     (Refused UnknownAlgorithm)))
 
--- A verdict that comes after a check.
+-- A verdict, where the check before it passes.
 abbrev pub verdictAfter : Check → Verdict → Verdict
 verdictAfter Passed verdict = verdict
 verdictAfter (Stopped refusal) verdict = Refused refusal
 
--- The verdict on a set.
+-- The verdict on a set; its own refusals come first.
 unfoldable pub verdictOf : JobSet → ℕ → Verdict
 verdictOf set algorithm = verdictAfter (checkOf (jobsOf set)) (verdictBy (jobsOf set) algorithm)
 
--- Only a yes lets the joined set in.
+-- The answer to admission: only a yes lets the joined set in.
 abbrev pub admitted : Verdict → JobSet → JobSet → Admission
 admitted Yes old joined = record { verdict = Yes; set = joined }
 admitted No old joined = record { verdict = No; set = old }
@@ -131,6 +123,6 @@ pub record Counted (t : Table) (rounds : ℕ) : Type 0 where
   pub cubic : rounds ≤ roundLimit t
   pub few : rounds ≤ max 1 (t .count)
 
--- `itr-rounds`: so it is for every accepted set.
+-- `itr-rounds`: what the number of rounds is, for every accepted set.
 abbrev pub RoundsCounted : Type 0
 RoundsCounted = (set : JobSet) → checkOf (jobsOf set) ≡ Passed → Counted (tableOf (jobsOf set)) (itrOf set .rounds)
