@@ -1,9 +1,7 @@
 -- Answers as C sees them. Document 01, "Programs and the C side". Assumes nothing.
 use Rattle.laws.specs.Words.{ℕ, List, ℤ, pos, negℤ}
 use Rattle.jobs.specs.declared.refusal.Refusal.{Refusal}
-use Rattle.jobs.specs.declared.refusal.Check.{Check}
-use Rattle.jobs.specs.declared.refusal.Check.the-variants.{Passed, Refused as Stopped}
-use Rattle.jobs.specs.Refusals.{numberOf}
+use Rattle.jobs.specs.Refusals.{numberOf, onPass}
 use Rattle.jobs.specs.Jobs.{jobsOf}
 use Rattle.table.specs.Tables.{readingOf}
 use Rattle.theory.specs.Table.{tableOf}
@@ -33,11 +31,6 @@ verdictCode (Refused refusal) = refusalCode refusal
 unfoldable pub verdictOfTable : List ℕ → ℕ → Verdict
 verdictOfTable text algorithm = let reading = readingOf text in verdictAfter (reading .check) (verdictBy (jobsOf (reading .set)) algorithm)
 
--- The rounds, where a check comes before.
-abbrev pub roundsAfter : Check → ℕ → ℤ
-roundsAfter Passed n = pos n
-roundsAfter (Stopped refusal) n = refusalCode refusal
-
 -- The rounds of ITR on a table's text, or the refusal of reading.
 unfoldable pub roundsOfTable : List ℕ → ℤ
-roundsOfTable text = let reading = readingOf text in roundsAfter (reading .check) (itr (tableOf (jobsOf (reading .set))) .rounds)
+roundsOfTable text = let reading = readingOf text in onPass (reading .check) refusalCode (pos (itr (tableOf (jobsOf (reading .set))) .rounds))

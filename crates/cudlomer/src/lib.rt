@@ -1,6 +1,5 @@
 // The functions that C calls. Each answers a number from 0 on, or the number of the refusal negated.
-ghost use Rattle.laws.specs.Words.{_≡_, pos, negℤ};
-ghost use Rattle.jobs.specs.Refusals.{numberOf};
+ghost use Rattle.laws.specs.Words.{_≡_};
 ghost use Rattle.report.specs.Texts.{boundsAnswer, boundsLeft, traceAnswer, traceLeft};
 ghost use Rattle.cudlomer.specs.Codes.{refusalCode, writtenCode, verdictCode, verdictOfTable, roundsOfTable};
 use analysis::answer::Verdict;

@@ -116,7 +116,7 @@ joining-start old new s last e f g =
       rest = rw (so-far-none old new) (unfold toCome withChain in sym (records-append [] old (numbered (nextChain old) 1 new) e));
     }
 
-module _ (old new : List Job) (k : ℕ) (s : JobSet) (last : Job) (r : Joining old new k s last) where
+module _ {old new : List Job} {k : ℕ} {s : JobSet} {last : Job} (r : Joining old new k s last) where
   pub joining-count : s .count ≡ length old + k
   unfolding setOf
   joining-count = ap (λ (x : JobSet). x .count) (r .holds) ∙ length-so-far old new k (r .inside)
@@ -126,7 +126,7 @@ module _ (old new : List Job) (k : ℕ) (s : JobSet) (last : Job) (r : Joining o
       (sym (r .rest) ∙ rw (to-come-none old new k h) (records-none (soFar old new k)), r .holds ∙ ap setOf (so-far-all old new k h))
 
   -- the next new record, which is j
-  module _ (j : Job) (here : k < length new) (is-here : j ≡ nextJob old new k) where
+  module _ {j : Job} (here : k < length new) (is-here : j ≡ nextJob old new k) where
     next-is : (o : Check) → recordCheck (s .count) last j ≡ o → nextCheck (soFar old new k) (nextJob old new k) ≡ o
     next-is o e = rw (length-so-far old new k (r .inside), ← joining-count, ← r .before, ← is-here) e
 

@@ -4,9 +4,8 @@ use Rattle.laws.specs.Words.{ℕ, _+_, List, [], _∷_, _++_, lastOf}
 use Rattle.jobs.specs.declared.job.Job.{Job}
 use Rattle.jobs.specs.declared.set.JobSet.{JobSet}
 use Rattle.jobs.specs.declared.refusal.Check.{Check}
-use Rattle.jobs.specs.declared.refusal.Check.the-variants.{Passed, Refused}
 use Rattle.jobs.specs.declared.join.Joined.{Joined}
-use Rattle.jobs.specs.Refusals.{andThen}
+use Rattle.jobs.specs.Refusals.{onPass, andThen}
 use Rattle.jobs.specs.Jobs.{noJob, jobsOf, setOf}
 use Rattle.jobs.specs.Checks.{recordsCheck, anyRecord}
 
@@ -36,11 +35,10 @@ withChain old new = old ++ numbered (lastOf noJob old .chain + 1) 1 new
 unfoldable pub joinCheck : List Job → List Job → Check
 joinCheck old new = andThen (recordsCheck [] (withChain old new)) (anyRecord new)
 
--- What a check leaves of the old set and the joined one.
+-- The joined set where a check passes, else the old one as it was.
 abbrev pub joinedBy : Check → JobSet → JobSet → Joined
-joinedBy Passed old joined = record { check = Passed; set = joined }
-joinedBy (Refused refusal) old joined = record { check = Refused refusal; set = old }
+joinedBy check old joined = record { check = check; set = onPass check (λ refusal. old) joined }
 
--- The joined set, or the refusal and the old set as it was.
+-- The answer to a join: the old set with the new chain, or the refusal and the old set.
 unfoldable pub joinOf : JobSet → JobSet → Joined
 joinOf old new = joinedBy (joinCheck (jobsOf old) (jobsOf new)) old (setOf (withChain (jobsOf old) (jobsOf new)))

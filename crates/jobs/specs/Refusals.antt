@@ -24,7 +24,11 @@ abbrev pub unless : Bool → Refusal → Check → Check
 unless true refusal later = later
 unless false refusal later = Refused refusal
 
+-- The answer where a check passes, else what is made of its refusal.
+abbrev pub onPass : {A : Type 0} → Check → (Refusal → A) → A → A
+onPass Passed otherwise answer = answer
+onPass (Refused refusal) otherwise answer = otherwise refusal
+
 -- Two checks in sequence: the first refusal decides.
 abbrev pub andThen : Check → Check → Check
-andThen Passed later = later
-andThen (Refused refusal) later = Refused refusal
+andThen check later = onPass check Refused later

@@ -9,7 +9,7 @@ use crate::refusal::Refusal;
 use crate::set::JobSet;
 
 // Refusals 4 to 6 record by record, the first bad record deciding.
-pub fn check_records(set: JobSet) -> Check
+pub(crate) fn check_records(set: JobSet) -> Check
     ensures { λ r. ⌜ r ≡ recordsCheck [] (jobsOf set) ⌝ }
 {
     let mut last = Job::none();

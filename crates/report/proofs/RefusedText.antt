@@ -49,10 +49,10 @@ number-within UnknownAlgorithm = omega arith
 number-within ImpossibleState = omega arith
 
 -- the line is short, whether it was written or not
-pub refused-short : (refusal : Refusal) (buffer : List ℕ) → writtenLength (refusedText refusal) buffer ≤ 30
-refused-short refusal buffer =
+pub refused-short : (refusal : Refusal) (buffer : List ℕ) {n : ℕ} → n ≡ writtenLength (refusedText refusal) buffer → n ≤ 30
+refused-short refusal buffer e =
     let text = refusedText refusal in
     let line : length text ≤ 30 = omega (arith, refused-length refusal, word-digits (numberOf refusal) (omega (arith, number-within refusal))) in
     by-test (leb (length text) (length buffer))
-    (λ t. omega (arith, line, length-fits text buffer (leb-true (length text) (length buffer) t)))
-    (λ t. omega (arith, length-short text buffer (leb-false (length text) (length buffer) t)))
+    (λ t. omega (arith, e, line, length-fits text buffer (leb-true (length text) (length buffer) t)))
+    (λ t. omega (arith, e, length-short text buffer (leb-false (length text) (length buffer) t)))

@@ -3,8 +3,7 @@ use Rattle.laws.specs.Words.{ℕ, cond, List, _++_, map, leb, length, ascii}
 use Rattle.decimal.specs.Writing.{written}
 use Rattle.jobs.specs.declared.job.Job.{Job}
 use Rattle.jobs.specs.declared.refusal.Refusal.the-variants.{ShortBuffer}
-use Rattle.jobs.specs.declared.refusal.Check.{Check}
-use Rattle.jobs.specs.declared.refusal.Check.the-variants.{Passed, Refused as Stopped}
+use Rattle.jobs.specs.Refusals.{onPass}
 use Rattle.jobs.specs.Jobs.{jobsOf}
 use Rattle.table.specs.Tables.{readingOf}
 use Rattle.theory.specs.Table.{tableOf}
@@ -42,28 +41,18 @@ traceText js = traceHeader ++ spansText js (traced js (mostTimes js))
 unfoldable pub answerTo : List ℕ → List ℕ → Written
 answerTo text buffer = cond (leb (length text) (length buffer)) (Bytes (length text)) (Refused ShortBuffer)
 
--- The same, where a check comes before.
-abbrev pub answerAfter : Check → List ℕ → List ℕ → Written
-answerAfter Passed text buffer = answerTo text buffer
-answerAfter (Stopped refusal) text buffer = Refused refusal
-
--- The buffer after it, which a text that does not fit leaves too (`written`).
-abbrev pub leftAfter : Check → List ℕ → List ℕ → List ℕ
-leftAfter Passed text buffer = written text buffer
-leftAfter (Stopped refusal) text buffer = buffer
-
 -- The answer to the bounds text of a table, after the refusals of reading.
 unfoldable pub boundsAnswer : List ℕ → List ℕ → Written
-boundsAnswer table buffer = let reading = readingOf table in answerAfter (reading .check) (boundsText (jobsOf (reading .set))) buffer
+boundsAnswer table buffer = let reading = readingOf table in onPass (reading .check) Refused (answerTo (boundsText (jobsOf (reading .set))) buffer)
 
--- The buffer after it.
+-- The buffer after it, as it was where there is a refusal.
 unfoldable pub boundsLeft : List ℕ → List ℕ → List ℕ
-boundsLeft table buffer = let reading = readingOf table in leftAfter (reading .check) (boundsText (jobsOf (reading .set))) buffer
+boundsLeft table buffer = let reading = readingOf table in onPass (reading .check) (λ refusal. buffer) (written (boundsText (jobsOf (reading .set))) buffer)
 
 -- The answer to the trace text of a table, after the refusals of reading.
 unfoldable pub traceAnswer : List ℕ → List ℕ → Written
-traceAnswer table buffer = let reading = readingOf table in answerAfter (reading .check) (traceText (jobsOf (reading .set))) buffer
+traceAnswer table buffer = let reading = readingOf table in onPass (reading .check) Refused (answerTo (traceText (jobsOf (reading .set))) buffer)
 
--- The buffer after that.
+-- The buffer after that, as it was where there is a refusal.
 unfoldable pub traceLeft : List ℕ → List ℕ → List ℕ
-traceLeft table buffer = let reading = readingOf table in leftAfter (reading .check) (traceText (jobsOf (reading .set))) buffer
+traceLeft table buffer = let reading = readingOf table in onPass (reading .check) (λ refusal. buffer) (written (traceText (jobsOf (reading .set))) buffer)

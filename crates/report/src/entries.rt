@@ -1,23 +1,31 @@
 // The rows of the trace text: four numbers each, one row after another in a slice.
 ghost use Rattle.laws.specs.Words.{_≡_, _+_, _*_, _≤_, length, patched};
 ghost use Rattle.jobs.specs.Limits.{maxJobs};
-ghost use Rattle.report.specs.Private.{entryText, entriesText};
+ghost use Rattle.report.specs.Private.{entryValues, entryText, entriesText};
 use crate::columns::columns_length;
 use crate::columns::write_bytes;
 use crate::columns::write_columns;
+
+// The four numbers of entry n.
+fn entry_values(numbers: &[u64], n: usize) -> [u64; 4]
+    requires { ⌜ 4 * n + 4 ≤ length (now numbers) ⌝ }
+    ensures { λ r. ⌜ r ≡ entryValues (now (numbers .entry)) n ⌝ }
+{
+    let at = 4 * n;
+    [
+        numbers[at],
+        numbers[at + 1],
+        numbers[at + 2],
+        numbers[at + 3],
+    ]
+}
 
 // How many bytes entry n takes: four columns of at most 21, and 2.
 fn entry_length(numbers: &[u64], n: usize) -> usize
     requires { ⌜ 4 * n + 4 ≤ length (now numbers) ⌝ }
     ensures { λ r. ⌜ (r ≡ length (entryText (now (numbers .entry)) n)) × (r ≤ 86) ⌝ }
 {
-    let at = 4 * n;
-    let values = [
-        numbers[at],
-        numbers[at + 1],
-        numbers[at + 2],
-        numbers[at + 3],
-    ];
+    let values = entry_values(numbers, n);
     columns_length(&values) + 2
 }
 
@@ -27,13 +35,7 @@ fn write_entry(numbers: &[u64], n: usize, out: &mut [u8], place: usize) -> usize
     requires { ⌜ place + length (entryText (now numbers) n) ≤ length (now out) ⌝ }
     ensures { λ r. ⌜ (r ≡ place + length (entryText (now (numbers .entry)) n)) × (now (out .exit) ≡ patched (now (out .entry)) place (entryText (now (numbers .entry)) n)) ⌝ }
 {
-    let at = 4 * n;
-    let values = [
-        numbers[at],
-        numbers[at + 1],
-        numbers[at + 2],
-        numbers[at + 3],
-    ];
+    let values = entry_values(numbers, n);
     let after_columns = write_columns(&values, out, place);
     write_bytes(b"\r\n", out, after_columns)
 }

@@ -2,7 +2,7 @@
 use Prim.Native.Nat.{ℕ}
 use mathlib.Core.Bool.{Bool, true, false, cond}
 use mathlib.Core.List.{List, [], _∷_, _++_}
-use mathlib.Core.Path.{_≡_, refl, ap, _∙_}
+use mathlib.Core.Path.{_≡_, refl, sym, ap, _∙_}
 use native.Mathlib.Omega.{arith}
 use lib.Dec.{leb}
 use lib.ListN.{length}
@@ -11,14 +11,15 @@ use Rattle.jobs.specs.declared.refusal.Refusal.{Refusal}
 use Rattle.jobs.specs.declared.refusal.Refusal.the-variants.{TextTooLong, NotHeader}
 use Rattle.jobs.specs.declared.refusal.Check.{Check}
 use Rattle.jobs.specs.declared.refusal.Check.the-variants.{Passed, Refused}
+use Rattle.jobs.specs.Refusals.{onPass}
 use Rattle.jobs.specs.Jobs.{jobsOf}
-use Rattle.jobs.specs.Checks.{recordsCheck, anyRecord, checkOf}
+use Rattle.jobs.specs.Checks.{recordsCheck, checkOf}
 use Rattle.jobs.proofs.Sets.{jobs-set}
 use Rattle.jobs.proofs.Checks.{nextCheck, records-append, records-none, records-passed, check-passed}
 use Rattle.table.specs.declared.reading.Reading.{Reading}
 use Rattle.table.specs.Lines.{linesOf}
 use Rattle.table.specs.Rows.{maxColumns, Row, row, noRow, rowOf}
-use Rattle.table.specs.Tables.{header, maxText, jobOf, refusedWith, readWith, thenRow, thenCheck, recordsFrom, same, underHeader, readingOf}
+use Rattle.table.specs.Tables.{header, maxText, jobOf, refusedWith, thenRow, recordsFrom, same, underHeader, readingOf}
 
 -- a reading that passes holds an accepted set
 abbrev Accepts : Reading → Type 0
@@ -29,11 +30,7 @@ passed-more : (before : List Job) (j : Job) → recordsCheck [] before ≡ Passe
 passed-more before j e f =
     records-append [] before (j ∷ []) e ∙ records-passed before j [] f ∙ records-none (before ++ (j ∷ []))
 
-at-end : (before : List Job) (o : Check) → recordsCheck [] before ≡ Passed → anyRecord before ≡ o → Accepts (readWith o before)
-at-end before Passed e f p = ap checkOf (jobs-set before) ∙ check-passed before Passed e f
-at-end before (Refused x) e f p = let z : _≡_ {A = ℕ} 0 1 = cc in absurd (omega arith)
-
-after-check : (o : Check) (rest : Reading) → (o ≡ Passed → Accepts rest) → Accepts (thenCheck o rest)
+after-check : (o : Check) (rest : Reading) → (o ≡ Passed → Accepts rest) → Accepts (onPass o refusedWith rest)
 after-check Passed rest f p = f refl p
 after-check (Refused x) rest f p = let z : _≡_ {A = ℕ} 0 1 = cc in absurd (omega arith)
 
@@ -43,7 +40,7 @@ after-row noRow rest f p = let z : _≡_ {A = ℕ} 0 1 = cc in absurd (omega ari
 
 records-accept : (before : List Job) (lines : List (List ℕ)) → recordsCheck [] before ≡ Passed → Accepts (recordsFrom before lines)
 unfolding recordsFrom
-records-accept before [] e = at-end before (anyRecord before) e refl
+records-accept before [] e = λ p. ap checkOf (jobs-set before) ∙ check-passed before Passed e p
 records-accept before (line ∷ lines) e =
     after-row (rowOf maxColumns line) _
     (λ j. after-check (nextCheck before j) (recordsFrom (before ++ (j ∷ [])) lines) (λ f. records-accept (before ++ (j ∷ [])) lines (passed-more before j e f)))
@@ -64,3 +61,13 @@ pub read-accepted : (text : List ℕ) → readingOf text .check ≡ Passed → c
 unfolding readingOf
 read-accepted text =
     by-header (leb (length text) maxText) (underHeader (linesOf text)) (refusedWith TextTooLong) (under-accept (linesOf text)) (refused-accept TextTooLong)
+
+-- ---- what a caller of the reader knows
+pub read-check : {reading other : Reading} {o : Check} → reading ≡ other → reading .check ≡ o → other .check ≡ o
+read-check is e = ap (λ (r : Reading). r .check) (sym is) ∙ e
+
+pub read-jobs : {reading other : Reading} → reading ≡ other → jobsOf (reading .set) ≡ jobsOf (other .set)
+read-jobs is = ap (λ (r : Reading). jobsOf (r .set)) is
+
+pub read-passed : (text : List ℕ) {reading : Reading} → reading ≡ readingOf text → reading .check ≡ Passed → checkOf (jobsOf (reading .set)) ≡ Passed
+read-passed text is e = ap checkOf (read-jobs is) ∙ read-accepted text (read-check is e)

@@ -11,8 +11,9 @@ use lib.Dec.{eqb}
 use borrow.Author.Tests.{eq-eqb, ne-eqb, eqb-true, eqb-false}
 use Rattle.laws.proofs.Tests.{by-test}
 use Rattle.table.specs.declared.line.End.the-variants.{Here, Elsewhere}
-use Rattle.table.specs.Lines.{isBreak, firstLine, afterLine, endOf, startsWith}
-use Rattle.table.specs.Tables.{header, same, headerEnd}
+use Rattle.table.specs.Lines.{isBreak, firstLine, afterLine}
+use Rattle.table.specs.Private.{endOf, startsWith, headerEnd}
+use Rattle.table.specs.Tables.{header, same}
 use Rattle.table.proofs.Lines.{lineLength, after-within, end-empty, end-elsewhere, end-within}
 
 -- ---- byte by byte

@@ -10,7 +10,8 @@ use lib.Dec.{eqb}
 use borrow.Author.Tests.{eq-eqb, ne-eqb}
 use Rattle.laws.proofs.Tests.{by-test}
 use Rattle.table.specs.declared.line.End.the-variants.{Here, Elsewhere}
-use Rattle.table.specs.Lines.{isBreak, firstLine, afterLine, linesUpTo, linesOf, endOf}
+use Rattle.table.specs.Lines.{isBreak, firstLine, afterLine, linesUpTo, linesOf}
+use Rattle.table.specs.Private.{endOf}
 
 -- ---- a byte that no break starts at belongs to the line
 pub first-cons : (b c : ℕ) (text : List ℕ) → isBreak b c ≡ false → firstLine (b ∷ c ∷ text) ≡ b ∷ firstLine (c ∷ text)

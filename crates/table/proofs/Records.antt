@@ -14,16 +14,18 @@ use Rattle.jobs.specs.declared.refusal.Refusal.the-variants.{MalformedLine, NoR
 use Rattle.jobs.specs.declared.refusal.Check.{Check}
 use Rattle.jobs.specs.declared.refusal.Check.the-variants.{Passed, Refused}
 use Rattle.jobs.specs.Limits.{maxJobs}
+use Rattle.jobs.specs.Refusals.{onPass}
 use Rattle.jobs.specs.Jobs.{noJob, jobsOf, setOf}
 use Rattle.jobs.specs.Checks.{recordCheck}
 use Rattle.jobs.proofs.Sets.{length-jobs, jobs-set, grown, set-grown}
-use Rattle.jobs.proofs.Checks.{any-none, any-some}
+use Rattle.jobs.proofs.Checks.{any-some}
 use Rattle.jobs.proofs.Accepted.{record-fine}
 use Rattle.table.specs.declared.line.Line.{Line}
 use Rattle.table.specs.declared.reading.Reading.{Reading}
 use Rattle.table.specs.Lines.{firstLine, afterLine, linesUpTo, linesOf}
-use Rattle.table.specs.Rows.{maxColumns, Row, row, noRow, rowOf, lineWith, lineOf}
-use Rattle.table.specs.Tables.{jobOf, refusedWith, thenRow, thenCheck, recordsFrom}
+use Rattle.table.specs.Rows.{maxColumns, Row, row, noRow, rowOf}
+use Rattle.table.specs.Private.{lineWith, lineOf}
+use Rattle.table.specs.Tables.{jobOf, refusedWith, thenRow, recordsFrom}
 use Rattle.table.proofs.Lines.{lineLength, line-within, line-some, after-drop, lines-cons}
 
 -- ---- one line
@@ -76,7 +78,7 @@ records-none rest s last e f =
       follows = rw none;
     }
 
-module _ (rest : List ℕ) (s : JobSet) (last : Job) (at : ℕ) (r : RecordsRead rest s last at) where
+module _ {rest : List ℕ} {s : JobSet} {last : Job} {at : ℕ} (r : RecordsRead rest s last at) where
   -- ---- no line is left
   at-end : length rest ≤ at → recordsFrom (jobsOf s) [] ≡ recordsFrom [] (linesOf rest)
   unfolding linesUpTo
@@ -84,7 +86,11 @@ module _ (rest : List ℕ) (s : JobSet) (last : Job) (at : ℕ) (r : RecordsRead
 
   pub records-empty : length rest ≤ at → s .count ≡ 0 → refusedWith NoRecord ≡ recordsFrom [] (linesOf rest)
   unfolding recordsFrom
-  records-empty h e = sym (rw (any-none (jobsOf s) (length-jobs s ∙ e))) ∙ at-end h
+  records-empty h e = ap (λ (js : List Job). recordsFrom js []) (sym (none (jobsOf s) (length-jobs s ∙ e))) ∙ at-end h
+    where
+      none : (js : List Job) → length js ≡ 0 → js ≡ []
+      none [] e = refl
+      none (j ∷ js) e = absurd (omega arith)
 
   pub records-end : length rest ≤ at → 0 < s .count → _≡_ {A = Reading} (record { check = Passed; set = s }) (recordsFrom [] (linesOf rest))
   unfolding recordsFrom
@@ -93,7 +99,7 @@ module _ (rest : List ℕ) (s : JobSet) (last : Job) (at : ℕ) (r : RecordsRead
       ap (λ (x : JobSet). record { check = Passed; set = x }) (r .holds) ∙ sym all ∙ at-end h
 
   -- ---- the next line
-  module _ (line : Line) (here : at < length rest) (is-line : line ≡ lineOf maxColumns (drop at rest)) where
+  module _ {line : Line} (here : at < length rest) (is-line : line ≡ lineOf maxColumns (drop at rest)) where
     at-here : drop at rest ≡ getD rest at 0 ∷ drop (suc at) rest
     at-here = drop-cons rest at 0 here
 
@@ -105,7 +111,7 @@ module _ (rest : List ℕ) (s : JobSet) (last : Job) (at : ℕ) (r : RecordsRead
     -- what follows the line, where it is the record of a job
     onward : Job → Reading
     onward j =
-        thenCheck (recordCheck (length (jobsOf s)) (lastOf noJob (jobsOf s)) j) (recordsFrom (jobsOf s ++ (j ∷ [])) (linesOf (afterLine (drop at rest))))
+        onPass (recordCheck (length (jobsOf s)) (lastOf noJob (jobsOf s)) j) refusedWith (recordsFrom (jobsOf s ++ (j ∷ [])) (linesOf (afterLine (drop at rest))))
 
     from-here : thenRow (rowOf maxColumns (firstLine (drop at rest))) onward ≡ recordsFrom [] (linesOf rest)
     unfolding recordsFrom onward
@@ -123,7 +129,7 @@ module _ (rest : List ℕ) (s : JobSet) (last : Job) (at : ℕ) (r : RecordsRead
 
       -- the check of the record decides how the reading goes on
       onward-by : (o : Check) → recordCheck (s .count) last (jobOf (line .values)) ≡ o
-          → onward (jobOf (line .values)) ≡ thenCheck o (recordsFrom (jobsOf s ++ (jobOf (line .values) ∷ [])) (linesOf (afterLine (drop at rest))))
+          → onward (jobOf (line .values)) ≡ onPass o refusedWith (recordsFrom (jobsOf s ++ (jobOf (line .values) ∷ [])) (linesOf (afterLine (drop at rest))))
       unfolding onward
       onward-by o e = rw (length-jobs s, ← r .before, e)
 

@@ -15,8 +15,9 @@ use Rattle.jobs.specs.declared.refusal.Check.the-variants.{Passed}
 use Rattle.table.specs.declared.line.End.{End}
 use Rattle.table.specs.declared.line.End.the-variants.{Here, Elsewhere}
 use Rattle.table.specs.declared.line.Line.{Line}
-use Rattle.table.specs.Lines.{firstLine, endOf}
-use Rattle.table.specs.Rows.{maxColumns, columnOf, Row, row, noRow, fieldsIn, malformedLine, lineWith, lineOf}
+use Rattle.table.specs.Lines.{firstLine}
+use Rattle.table.specs.Private.{endOf, malformedLine, lineWith, lineOf}
+use Rattle.table.specs.Rows.{maxColumns, columnOf, Row, row, noRow, fieldsIn}
 use Rattle.table.proofs.Lines.{lineLength, after-within, inside, end-empty, end-elsewhere, end-within}
 use Rattle.table.proofs.Columns.{column-line, column-within}
 
@@ -97,7 +98,7 @@ pub record FieldsRead (columns : ℕ) (text values : List ℕ) (at k : ℕ) : Ty
 pub fields-none : (columns : ℕ) (text : List ℕ) → FieldsRead columns text (padded maxColumns 0 []) 0 0
 fields-none columns text = record { few = omega arith; inside = omega arith; padding = refl; follows = ap (λ (k : ℕ). readOn k [] 0 text) (omega arith) ∙ read-line columns text }
 
-module _ (columns : ℕ) (text values : List ℕ) (at k : ℕ) (room : columns ≤ maxColumns) (r : FieldsRead columns text values at k) where
+module _ {columns : ℕ} {text values : List ℕ} {at k : ℕ} (room : columns ≤ maxColumns) (r : FieldsRead columns text values at k) where
   pub length-values : length values ≡ maxColumns
   length-values = ap length (r .padding) ∙ length-padded maxColumns 0 (take k values) (omega (arith, length-take k values, r .few))
 

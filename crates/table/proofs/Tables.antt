@@ -10,7 +10,8 @@ use Rattle.laws.proofs.Tests.{by-test}
 use Rattle.jobs.specs.declared.refusal.Refusal.the-variants.{TextTooLong, NotHeader}
 use Rattle.table.specs.declared.line.End.the-variants.{Here, Elsewhere}
 use Rattle.table.specs.Lines.{firstLine, afterLine, linesUpTo, linesOf}
-use Rattle.table.specs.Tables.{header, maxText, refusedWith, recordsFrom, same, underHeader, headerEnd, readingOf}
+use Rattle.table.specs.Tables.{header, maxText, refusedWith, recordsFrom, same, underHeader, readingOf}
+use Rattle.table.specs.Private.{headerEnd}
 use Rattle.table.proofs.Lines.{lineLength, line-within, after-drop, lines-cons}
 
 pub too-long : (text : List ℕ) → maxText < length text → refusedWith TextTooLong ≡ readingOf text

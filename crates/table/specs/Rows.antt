@@ -1,12 +1,8 @@
 -- The fields of a line. Document 01, "A job table", and number 3. Assumes nothing.
-use Rattle.laws.specs.Words.{ℕ, zero, suc, _+_, _-_, cond, List, [], _∷_, _++_, length, drop, eqb, padded}
+use Rattle.laws.specs.Words.{ℕ, zero, suc, _+_, cond, List, [], _∷_, _++_, length, drop, eqb}
 use Rattle.decimal.specs.declared.field.Field.{Field}
 use Rattle.decimal.specs.declared.field.Field.the-variants.{Number, NoNumber}
 use Rattle.decimal.specs.Fields.{fieldOf}
-use Rattle.jobs.specs.declared.refusal.Refusal.the-variants.{MalformedLine}
-use Rattle.jobs.specs.declared.refusal.Check.the-variants.{Passed, Refused}
-use Rattle.table.specs.declared.line.Line.{Line}
-use Rattle.table.specs.Lines.{firstLine, afterLine}
 
 -- The most columns of a line.
 abbrev pub maxColumns : ℕ
@@ -46,16 +42,3 @@ fieldsIn (suc k) before text =
 -- The values of a line of so many fields with single commas.
 abbrev pub rowOf : ℕ → List ℕ → Row
 rowOf columns line = fieldsIn columns [] line
-
--- What the reader of a line answers of any other.
-abbrev pub malformedLine : Line
-malformedLine = record { check = Refused MalformedLine; values = padded maxColumns 0 []; length = 0 }
-
--- What it answers of a row that takes n bytes with its end.
-abbrev pub lineWith : Row → ℕ → Line
-lineWith (row values) n = record { check = Passed; values = padded maxColumns 0 values; length = n }
-lineWith noRow n = malformedLine
-
--- What it answers of the first line of a text.
-unfoldable pub lineOf : ℕ → List ℕ → Line
-lineOf columns text = lineWith (rowOf columns (firstLine text)) (length text - length (afterLine text))

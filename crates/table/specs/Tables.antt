@@ -1,16 +1,14 @@
 -- A whole job table. Document 01, "A job table", and numbers 1 to 7. Assumes nothing.
-use Rattle.laws.specs.Words.{ℕ, _-_, Bool, true, false, cond, List, [], _∷_, _++_, length, getD, leb, eqb, lastOf, ascii}
+use Rattle.laws.specs.Words.{ℕ, Bool, true, false, cond, List, [], _∷_, _++_, length, getD, leb, eqb, lastOf, ascii}
 use Rattle.jobs.specs.declared.job.Job.{Job}
 use Rattle.jobs.specs.declared.refusal.Refusal.{Refusal}
 use Rattle.jobs.specs.declared.refusal.Refusal.the-variants.{TextTooLong, NotHeader, MalformedLine}
-use Rattle.jobs.specs.declared.refusal.Check.{Check}
-use Rattle.jobs.specs.declared.refusal.Check.the-variants.{Passed, Refused}
+use Rattle.jobs.specs.declared.refusal.Check.the-variants.{Refused}
+use Rattle.jobs.specs.Refusals.{onPass}
 use Rattle.jobs.specs.Jobs.{noJob, setOf}
 use Rattle.jobs.specs.Checks.{recordCheck, anyRecord}
-use Rattle.table.specs.declared.line.End.{End}
-use Rattle.table.specs.declared.line.End.the-variants.{Here, Elsewhere}
 use Rattle.table.specs.declared.reading.Reading.{Reading}
-use Rattle.table.specs.Lines.{firstLine, afterLine, linesOf}
+use Rattle.table.specs.Lines.{linesOf}
 use Rattle.table.specs.Rows.{maxColumns, Row, row, noRow, rowOf}
 
 -- The first line.
@@ -38,27 +36,17 @@ jobOf values =
 abbrev pub refusedWith : Refusal → Reading
 refusedWith refusal = record { check = Refused refusal; set = setOf [] }
 
--- The answer after the check that comes last.
-abbrev pub readWith : Check → List Job → Reading
-readWith Passed js = record { check = Passed; set = setOf js }
-readWith (Refused refusal) js = refusedWith refusal
-
 -- What follows a line that is seven fields; any other is refused with 3.
 abbrev pub thenRow : Row → (Job → Reading) → Reading
 thenRow (row values) rest = rest (jobOf values)
 thenRow noRow rest = refusedWith MalformedLine
 
--- What follows the check of a record.
-abbrev pub thenCheck : Check → Reading → Reading
-thenCheck Passed rest = rest
-thenCheck (Refused refusal) rest = refusedWith refusal
-
 -- 3 to 6 line by line after the records before, the first bad line deciding, then 7.
 unfoldable pub recordsFrom : List Job → List (List ℕ) → Reading
-recordsFrom before [] = readWith (anyRecord before) before
+recordsFrom before [] = record { check = anyRecord before; set = setOf before }
 recordsFrom before (line ∷ lines) =
     thenRow (rowOf maxColumns line)
-    (λ j. let rest = recordsFrom (before ++ (j ∷ [])) lines in thenCheck (recordCheck (length before) (lastOf noJob before) j) rest)
+    (λ j. let rest = recordsFrom (before ++ (j ∷ [])) lines in onPass (recordCheck (length before) (lastOf noJob before) j) refusedWith rest)
 
 -- Whether two texts are the same.
 unfoldable pub same : List ℕ → List ℕ → Bool
@@ -75,7 +63,3 @@ underHeader (line ∷ lines) = cond (same line header) (recordsFrom [] lines) (r
 -- The answer to reading a text: its jobs, or the refusal with no jobs; 1 comes first.
 unfoldable pub readingOf : List ℕ → Reading
 readingOf text = cond (leb (length text) maxText) (underHeader (linesOf text)) (refusedWith TextTooLong)
-
--- What the reader of the header answers: how many bytes it takes with its end, where the first line is the header.
-unfoldable pub headerEnd : List ℕ → End
-headerEnd text = cond (same (firstLine text) header) (Here (length text - length (afterLine text))) Elsewhere

@@ -1,7 +1,6 @@
 // The first line of a table.
 ghost use Rattle.laws.specs.Words.{_≡_};
-ghost use Rattle.table.specs.Lines.{startsWith};
-ghost use Rattle.table.specs.Tables.{headerEnd};
+ghost use Rattle.table.specs.Private.{startsWith, headerEnd};
 use crate::line::End;
 use crate::line::read_end;
 
@@ -25,7 +24,7 @@ fn starts_with(text: &[u8], prefix: &[u8]) -> bool
 }
 
 // Whether the first line is the header, and how many bytes it takes with its end.
-pub fn read_header(text: &[u8]) -> End
+pub(crate) fn read_header(text: &[u8]) -> End
     ensures { λ r. ⌜ r ≡ headerEnd (now (text .entry)) ⌝ }
 {
     let header = HEADER;

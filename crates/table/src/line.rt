@@ -1,7 +1,7 @@
 // One line of a table after the first: fields with single commas.
 ghost use Rattle.laws.specs.Words.{_≡_, _≤_};
-ghost use Rattle.table.specs.Lines.{endOf};
-ghost use Rattle.table.specs.Rows.{maxColumns, columnOf, malformedLine, lineOf};
+ghost use Rattle.table.specs.Private.{endOf, malformedLine, lineOf};
+ghost use Rattle.table.specs.Rows.{maxColumns, columnOf};
 use decimal::field::Field;
 use decimal::field::read_field;
 use jobs::refusal::Check;
@@ -46,7 +46,7 @@ fn read_column(rest: &[u8], k: usize) -> Field
 }
 
 // A line ends at the end of the text, and before a CR LF.
-pub fn read_end(rest: &[u8]) -> End
+pub(crate) fn read_end(rest: &[u8]) -> End
     ensures { λ r. ⌜ r ≡ endOf (now (rest .entry)) ⌝ }
 {
     if rest.len() == 0 {

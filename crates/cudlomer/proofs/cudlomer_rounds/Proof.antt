@@ -1,6 +1,6 @@
 -- `cudlomer_rounds` answers the rounds of ITR, as C sees them. Assumes nothing.
 use Prim.Native.Nat.{_≤_}
-use mathlib.Core.Path.{_≡_, sym, ap, _∙_}
+use mathlib.Core.Path.{_≡_, ap, _∙_}
 use native.Mathlib.Omega.{arith}
 use lib.IntN.{pos}
 use mir.Syntax.{w64}
@@ -10,9 +10,7 @@ use Rattle.jobs.specs.declared.refusal.Check.the-variants.{Passed}
 use Rattle.jobs.specs.Limits.{maxJobs}
 use Rattle.jobs.specs.Jobs.{jobsOf}
 use Rattle.jobs.specs.Checks.{checkOf}
-use Rattle.table.specs.declared.reading.Reading.{Reading}
-use Rattle.table.specs.Tables.{readingOf}
-use Rattle.table.proofs.Accepting.{read-accepted}
+use Rattle.table.proofs.Accepting.{read-check, read-jobs, read-passed}
 use Rattle.jobs.proofs.Accepted.{accepted}
 use Rattle.theory.specs.Table.{tableOf}
 use Rattle.theory.specs.Rounds.{itr}
@@ -23,23 +21,18 @@ use Rattle.cudlomer.specs.Codes.{roundsOfTable}
 use Rattle.cudlomer.proofs.cudlomer_rounds.Statement.{statement}
 use Rattle.cudlomer.proofs.cudlomer_rounds.Tie as tie
 
--- the table is read, and its set is accepted
-passed : (c : tie.After-enum-told) → readingOf (c .before .before .before .before .args .text .now) .check ≡ Passed
-passed c = ap (λ (r : Reading). r .check) (sym (c .before .before .read .ensures)) ∙ c .enum-told .given .1
+-- the set that is read is accepted
+accepts : (c : tie.After-enum-told) → checkOf (jobsOf (c .before .before .read .result .set)) ≡ Passed
+accepts c = read-passed _ (c .before .before .read .ensures) (c .enum-told .given .1)
 
-accepts : (c : tie.After-enum-told) → checkOf (jobsOf (readingOf (c .before .before .before .before .args .text .now) .set)) ≡ Passed
-accepts c = read-accepted (c .before .before .before .before .args .text .now) (passed c)
-
--- the rounds of the set are those of the table, and few
-is-rounds : (c : tie.After-itr) → c .itr .result .rounds ≡ itr (tableOf (jobsOf (readingOf (c .before .before .before .before .before .args .text .now) .set))) .rounds
+-- the rounds of the set are those of its table, and few
+is-rounds : (c : tie.After-itr) → c .itr .result .rounds ≡ itr (tableOf (jobsOf (c .before .before .before .read .result .set))) .rounds
 unfolding itrOf
-is-rounds c =
-    let e = c .itr .ensures ∙ ap (λ (r : Reading). itrOf (r .set)) (c .before .before .before .read .ensures) in
-    ap (λ (a : Itr). a .rounds) (rw (accepts (c .before)) at e)
+is-rounds c = ap (λ (a : Itr). a .rounds) (rw (accepts (c .before)) at (c .itr .ensures))
 
 within : (c : tie.After-itr) → c .itr .result .rounds ≤ maxJobs
 within c =
-    let js = jobsOf (readingOf (c .before .before .before .before .before .args .text .now) .set) in
+    let js = jobsOf (c .before .before .before .read .result .set) in
     omega (arith, is-rounds c, few-rounds js (accepts (c .before)), accepted js (accepts (c .before)) .few)
 
 read-requires : tie.Need-read-requires
@@ -54,7 +47,7 @@ negated-requires c κs = search needs
 returns : tie.Need-returns
 unfolding roundsOfTable
 returns c =
-    rw (ap (λ (r : Reading). r .check) (sym (c .before .before .before .before .read .ensures)) ∙ c .before .before .check .given .1)
+    rw (read-check (c .before .before .before .before .read .ensures) (c .before .before .check .given .1))
     (toZ-ofZ {w = w64} {z = c .negated .result} (record { sfits = c .negated .ok }) ∙ c .negated .ensures)
 
 enum-told : tie.Need-enum-told
@@ -68,7 +61,10 @@ cast-result c = record { sfits = omega (arith, within (c .before)) }
 
 returns-2 : tie.Need-returns-2
 unfolding roundsOfTable
-returns-2 c = rw (passed (c .before .before)) (toZ-pos w64 {n = c .before .itr .result .rounds} (omega (arith, within (c .before))) ∙ ap pos (is-rounds (c .before)))
+returns-2 c =
+    let is = c .before .before .before .before .read .ensures in
+    rw (read-check is (c .before .before .enum-told .given .1), ← read-jobs is)
+    (toZ-pos w64 {n = c .before .itr .result .rounds} (omega (arith, within (c .before))) ∙ ap pos (is-rounds (c .before)))
 
 pub cudlomer-rounds-spec : {M : Type 1} → statement M
 cudlomer-rounds-spec =

@@ -3,30 +3,19 @@ use mathlib.Core.Path.{_≡_, sym, ap, _∙_}
 use mir.Syntax.{w64}
 use mir.Facts.{toZ-ofZ}
 use borrow.Author.Needs.{needs}
-use Rattle.jobs.specs.declared.refusal.Check.the-variants.{Passed}
-use Rattle.jobs.specs.Jobs.{jobsOf}
-use Rattle.jobs.specs.Checks.{checkOf}
-use Rattle.table.specs.declared.reading.Reading.{Reading}
-use Rattle.table.specs.Tables.{readingOf}
-use Rattle.table.proofs.Accepting.{read-accepted}
+use Rattle.table.proofs.Accepting.{read-check, read-jobs, read-passed}
 use Rattle.analysis.specs.Answers.{verdictOf}
 use Rattle.cudlomer.specs.Codes.{verdictCode, verdictOfTable}
 use Rattle.cudlomer.proofs.cudlomer_verdict.Statement.{statement}
 use Rattle.cudlomer.proofs.cudlomer_verdict.Tie as tie
 
--- the table is read, and its set is accepted
-passed : (c : tie.After-enum-told) → readingOf (c .before .before .before .before .args .text .now) .check ≡ Passed
-passed c = ap (λ (r : Reading). r .check) (sym (c .before .before .read .ensures)) ∙ c .enum-told .given .1
-
-accepts : (c : tie.After-enum-told) → checkOf (jobsOf (readingOf (c .before .before .before .before .args .text .now) .set)) ≡ Passed
-accepts c = read-accepted (c .before .before .before .before .args .text .now) (passed c)
-
 -- the verdict on the set is the one on the table
 is-verdict : (c : tie.After-verdict) → verdictOfTable (c .before .before .before .before .before .args .text .now) (c .before .before .before .before .before .args .algorithm) ≡ c .verdict .result
 unfolding verdictOfTable verdictOf
 is-verdict c =
-    let e = c .verdict .ensures ∙ ap (λ (r : Reading). verdictOf (r .set) (c .before .before .before .before .before .args .algorithm)) (c .before .before .before .read .ensures) in
-    rw (passed (c .before)) (sym (rw (accepts (c .before)) at e))
+    let is = c .before .before .before .read .ensures in
+    let told = c .before .enum-told .given .1 in
+    rw (read-check is told, ← read-jobs is) (sym (rw (read-passed _ is told) at (c .verdict .ensures)))
 
 read-requires : tie.Need-read-requires
 read-requires c κs = search needs
@@ -40,7 +29,7 @@ negated-requires c κs = search needs
 returns : tie.Need-returns
 unfolding verdictOfTable
 returns c =
-    rw (ap (λ (r : Reading). r .check) (sym (c .before .before .before .before .read .ensures)) ∙ c .before .before .check .given .1)
+    rw (read-check (c .before .before .before .before .read .ensures) (c .before .before .check .given .1))
     (toZ-ofZ {w = w64} {z = c .negated .result} (record { sfits = c .negated .ok }) ∙ c .negated .ensures)
 
 enum-told : tie.Need-enum-told

@@ -1,7 +1,7 @@
 -- `append` answers `joinOf`. The loop's invariant: the new records so far stand numbered behind the old ones, and what is still to come decides.
 -- Assumes nothing.
 use Prim.Native.Nat.{_-_}
-use mathlib.Core.Path.{refl, sym, ap, _∙_}
+use mathlib.Core.Path.{_≡_, refl, sym, ap, _∙_}
 use native.Mathlib.Omega.{arith}
 use borrow.Author.Needs.{needs}
 use Rattle.jobs.specs.declared.set.JobSet.{JobSet}
@@ -11,7 +11,7 @@ use Rattle.jobs.specs.Jobs.{jobsOf}
 use Rattle.jobs.proofs.Sets.{length-jobs}
 use Rattle.jobs.proofs.Checks.{record-many}
 use Rattle.jobs.proofs.Accepted.{records-few}
-use Rattle.jobs.proofs.Joins.{last-chain, Joining, joining-start, joining-count, joining-end, joining-refused, joining-next, next-job, join-refused, join-empty, join-passed}
+use Rattle.jobs.proofs.Joins.{last-chain, nextJob, Joining, joining-start, joining-count, joining-end, joining-refused, joining-next, next-job, join-refused, join-empty, join-passed}
 use Rattle.jobs.proofs.join.append.Statement.{statement}
 use Rattle.jobs.proofs.join.append.Tie as tie
 
@@ -23,6 +23,10 @@ Inv-loop old new set₀ last₀ chain count k₀ set last k = Joining (jobsOf ol
 
 abbrev μ-loop : tie.MeasureT-loop
 μ-loop old new set₀ last₀ chain count k₀ set last k = count - k
+
+-- the record to be checked is the next one
+next : (c : tie.After-renumber Inv-loop μ-loop) → c .renumber .result ≡ nextJob (jobsOf (c .before .before .before .before .before .before .before .before .args .old)) (jobsOf (c .before .before .before .before .before .before .before .before .args .t2)) (c .before .before .before .before .loop .k)
+next c = next-job (c .before .before .before .before .before .before .before .before .args .old) (c .before .before .before .before .before .before .before .before .args .t2) (c .before .before .before .before .loop .k) (c .before .before .before .before .before .before .last-of .result) (c .renumber .result) (c .before .before .before .before .before .before .last-of .ensures) (c .before .before .before .loop-test .taken) (c .renumber .ensures)
 
 cleared-requires : tie.Need-cleared-requires Inv-loop μ-loop
 cleared-requires c κs = omega (arith, length-jobs (c .args .old), records-few (jobsOf (c .args .old)) (c .pre))
@@ -42,7 +46,7 @@ returns c =
     let n = c .before .before .before .before .before .before .args .t2 in
     let l = c .before .before .loop in
     let h = c .before .loop-test .taken in
-    sym (join-refused o n _ (joining-refused (jobsOf o) (jobsOf n) (l .k) (l .set) (l .last) (l .inv) _ (omega (arith, length-jobs n)) refl _ (record-many (l .set .count) (l .last) _ (c .if1 .taken))))
+    sym (join-refused o n _ (joining-refused (l .inv) (omega (arith, length-jobs n)) refl _ (record-many (l .set .count) (l .last) _ (c .if1 .taken))))
 
 add-renumber : tie.Need-add-renumber Inv-loop μ-loop
 add-renumber c = search needs
@@ -56,7 +60,7 @@ element-copy-out-renumber c =
     let n = c .before .before .before .before .before .before .args .t2 in
     let l = c .before .before .loop in
     let h = c .before .loop-test .taken in
-    omega (arith, joining-count (jobsOf o) (jobsOf n) (l .k) (l .set) (l .last) (l .inv), c .if1 .left)
+    omega (arith, joining-count (l .inv), c .if1 .left)
 
 renumber-requires : tie.Need-renumber-requires Inv-loop μ-loop
 renumber-requires c κs = search needs
@@ -73,8 +77,7 @@ returns-2 c =
     let n = c .before .before .before .before .before .before .before .before .before .before .before .before .args .t2 in
     let l = c .before .before .before .before .before .before .before .before .loop in
     let h = c .before .before .before .before .before .before .before .loop-test .taken in
-    sym (join-refused o n _ (joining-refused (jobsOf o) (jobsOf n) (l .k) (l .set) (l .last) (l .inv) (c .before .before .before .before .renumber .result) (omega (arith, length-jobs n))
-    (next-job o n (l .k) (c .before .before .before .before .before .before .before .before .before .before .last-of .result) (c .before .before .before .before .renumber .result) (c .before .before .before .before .before .before .before .before .before .before .last-of .ensures) h (c .before .before .before .before .renumber .ensures)) _ (sym (c .before .before .before .check-record .ensures) ∙ c .before .refusal .given .1)))
+    sym (join-refused o n _ (joining-refused (l .inv) (omega (arith, length-jobs n)) (next (c .before .before .before .before)) _ (sym (c .before .before .before .check-record .ensures) ∙ c .before .refusal .given .1)))
 
 enum-told : tie.Need-enum-told Inv-loop μ-loop
 enum-told c = search needs
@@ -100,8 +103,7 @@ loop-again c =
     let n = c .before .before .before .before .before .before .before .before .before .before .before .args .t2 in
     let l = c .before .before .before .before .before .before .before .loop in
     let h = c .before .before .before .before .before .before .loop-test .taken in
-    joining-next (jobsOf o) (jobsOf n) (l .k) (l .set) (l .last) (l .inv) (c .before .before .before .renumber .result) (omega (arith, length-jobs n))
-    (next-job o n (l .k) (c .before .before .before .before .before .before .before .before .before .last-of .result) (c .before .before .before .renumber .result) (c .before .before .before .before .before .before .before .before .before .last-of .ensures) h (c .before .before .before .renumber .ensures)) (c .before .before .before .before .before .if1 .left) (sym (c .before .before .check-record .ensures) ∙ c .enum-told .given .1)
+    joining-next (l .inv) (omega (arith, length-jobs n)) (next (c .before .before .before)) (c .before .before .before .before .before .if1 .left) (sym (c .before .before .check-record .ensures) ∙ c .enum-told .given .1)
 
 returns-3 : tie.Need-returns-3 Inv-loop μ-loop
 returns-3 c =
@@ -109,7 +111,7 @@ returns-3 c =
     let n = c .before .before .before .before .before .before .args .t2 in
     let l = c .before .before .loop in
     let h = c .before .loop-test .left in
-    sym (join-empty o n (joining-end (jobsOf o) (jobsOf n) (l .k) (l .set) (l .last) (l .inv) (omega (arith, length-jobs n)) .0) (omega (arith, length-jobs n, c .if2 .taken)))
+    sym (join-empty o n (joining-end (l .inv) (omega (arith, length-jobs n)) .0) (omega (arith, length-jobs n, c .if2 .taken)))
 
 returns-4 : tie.Need-returns-4 Inv-loop μ-loop
 returns-4 c =
@@ -117,7 +119,7 @@ returns-4 c =
     let n = c .before .before .before .before .before .before .args .t2 in
     let l = c .before .before .loop in
     let h = c .before .loop-test .left in
-    let e = joining-end (jobsOf o) (jobsOf n) (l .k) (l .set) (l .last) (l .inv) (omega (arith, length-jobs n)) in
+    let e = joining-end (l .inv) (omega (arith, length-jobs n)) in
     ap passedWith (e .1) ∙ sym (join-passed o n (e .0) (omega (arith, length-jobs n, l .inv .inside, c .if2 .left)))
 
 pub append-spec : {M : Type 1} → statement M

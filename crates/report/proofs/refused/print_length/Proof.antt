@@ -1,13 +1,12 @@
 -- `print_length` answers `printLength` and leaves `printLeft`. Assumes nothing.
 use Prim.Native.Nat.{_≤_}
-use native.Mathlib.Omega.{arith}
 use borrow.Author.Needs.{needs}
 use Rattle.report.proofs.RefusedText.{refused-short}
 use Rattle.report.proofs.refused.print_length.Statement.{statement}
 use Rattle.report.proofs.refused.print_length.Tie as tie
 
 short : (c : tie.After-write-refused) → c .write-refused .result ≤ 30
-short c = omega (arith, c .write-refused .ensures .0, refused-short (c .before .before .before .answer2 .given .0 .0) (c .before .before .before .before .before .before .args .out .now))
+short c = refused-short _ _ (c .write-refused .ensures .0)
 
 enum-known-answer : tie.Need-enum-known-answer
 enum-known-answer c = search needs

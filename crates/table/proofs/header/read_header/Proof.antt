@@ -5,7 +5,7 @@ use lib.ListN.{length, drop}
 use borrow.Author.Needs.{needs}
 use borrow.Author.Tests.{not-true, not-false}
 use Rattle.laws.proofs.Lists.{rest-is}
-use Rattle.table.specs.Lines.{endOf, startsWith}
+use Rattle.table.specs.Private.{endOf, startsWith}
 use Rattle.table.specs.Tables.{header}
 use Rattle.table.proofs.Headers.{not-header, header-within, header-room, header-line, header-longer}
 use Rattle.table.proofs.header.read_header.Statement.{statement}

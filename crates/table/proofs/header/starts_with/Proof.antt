@@ -3,7 +3,7 @@ use Prim.Native.Nat.{_-_}
 use mathlib.Core.Path.{_≡_, refl, sym, _∙_}
 use lib.ListN.{length, drop}
 use borrow.Author.Needs.{needs}
-use Rattle.table.specs.Lines.{startsWith}
+use Rattle.table.specs.Private.{startsWith}
 use Rattle.table.proofs.Headers.{prefix-done, prefix-short, prefix-differs, prefix-agrees}
 use Rattle.table.proofs.header.starts_with.Statement.{statement}
 use Rattle.table.proofs.header.starts_with.Tie as tie

@@ -4,7 +4,7 @@ use mathlib.Core.Path.{_≡_, sym, _∙_}
 use lib.ListN.{length, drop}
 use borrow.Author.Needs.{needs}
 use Rattle.laws.proofs.Lists.{rest-is}
-use Rattle.table.specs.Lines.{endOf}
+use Rattle.table.specs.Private.{endOf}
 use Rattle.table.specs.Rows.{columnOf}
 use Rattle.table.proofs.Rows.{FieldsRead, fields-none, fields-malformed, fields-within, fields-next, fields-last, fields-ended, fields-open}
 use Rattle.table.proofs.line.read_line.Statement.{statement}
@@ -50,10 +50,7 @@ malformed-requires c κs = search needs
 
 returns : tie.Need-returns Inv-loop μ-loop
 returns c =
-    let text = c .before .before .before .before .before .before .before .before .args .rest .now in
-    let n = c .before .before .before .before .before .before .before .before .args .columns in
-    let l = c .before .before .before .before .before .before .loop in
-    c .malformed .ensures ∙ fields-malformed n text (l .values) (l .at) (l .k) (c .before .before .before .before .before .before .before .before .pre) (l .inv) (c .before .before .before .before .before .loop-test .taken) (sym (column (c .before .before .before)) ∙ c .before .enum-told .given .1)
+    c .malformed .ensures ∙ fields-malformed (c .before .before .before .before .before .before .before .before .pre) (c .before .before .before .before .before .before .loop .inv) (c .before .before .before .before .before .loop-test .taken) (sym (column (c .before .before .before)) ∙ c .before .enum-told .given .1)
 
 mul-values : tie.Need-mul-values Inv-loop μ-loop
 mul-values c = search needs
@@ -63,10 +60,7 @@ array-write-values c = search needs
 
 add-at : tie.Need-add-at Inv-loop μ-loop
 add-at c =
-    let text = c .before .before .before .before .before .before .before .before .args .rest .now in
-    let n = c .before .before .before .before .before .before .before .before .args .columns in
-    let l = c .before .before .before .before .before .before .loop in
-    let h = fields-within n text (l .values) (l .at) (l .k) (c .before .before .before .before .before .before .before .before .pre) (l .inv) _ _ (sym (column (c .before .before .before)) ∙ c .before .value .given .1) in
+    let h = fields-within (c .before .before .before .before .before .before .before .before .pre) (c .before .before .before .before .before .before .loop .inv) _ _ (sym (column (c .before .before .before)) ∙ c .before .value .given .1) in
     search (needs, h)
 
 add-k : tie.Need-add-k Inv-loop μ-loop
@@ -77,10 +71,7 @@ loop-less c = search needs
 
 loop-again : tie.Need-loop-again Inv-loop μ-loop
 loop-again c =
-    let text = c .before .before .before .before .before .before .before .before .args .rest .now in
-    let n = c .before .before .before .before .before .before .before .before .args .columns in
-    let l = c .before .before .before .before .before .before .loop in
-    fields-next n text (l .values) (l .at) (l .k) (c .before .before .before .before .before .before .before .before .pre) (l .inv) _ _ (c .before .before .before .before .before .loop-test .taken) (sym (column (c .before .before .before)) ∙ c .before .value .given .1)
+    fields-next (c .before .before .before .before .before .before .before .before .pre) (c .before .before .before .before .before .before .loop .inv) _ _ (c .before .before .before .before .before .loop-test .taken) (sym (column (c .before .before .before)) ∙ c .before .value .given .1)
 
 sub-read-end : tie.Need-sub-read-end Inv-loop μ-loop
 sub-read-end c = search needs
@@ -105,25 +96,16 @@ malformed-requires-2 c κs = search needs
 
 returns-2 : tie.Need-returns-2 Inv-loop μ-loop
 returns-2 c =
-    let text = c .before .before .before .before .before .before .before .before .args .rest .now in
-    let n = c .before .before .before .before .before .before .before .before .args .columns in
-    let l = c .before .before .before .before .before .before .loop in
-    c .malformed2 .ensures ∙ fields-open n text (l .values) (l .at) (l .k) (c .before .before .before .before .before .before .before .before .pre) (l .inv) (c .before .before .before .before .before .loop-test .left) (sym (line-end (c .before .before .before)) ∙ c .before .enum-told2 .given .1)
+    c .malformed2 .ensures ∙ fields-open (c .before .before .before .before .before .before .before .before .pre) (c .before .before .before .before .before .before .loop .inv) (c .before .before .before .before .before .loop-test .left) (sym (line-end (c .before .before .before)) ∙ c .before .enum-told2 .given .1)
 
 add-t19 : tie.Need-add-t19 Inv-loop μ-loop
 add-t19 c =
-    let text = c .before .before .before .before .before .before .before .before .args .rest .now in
-    let n = c .before .before .before .before .before .before .before .before .args .columns in
-    let l = c .before .before .before .before .before .before .loop in
-    let h = fields-last n text (l .values) (l .at) (l .k) (c .before .before .before .before .before .before .before .before .pre) (l .inv) _ (sym (line-end (c .before .before .before)) ∙ c .before .length .given .1) in
+    let h = fields-last (c .before .before .before .before .before .before .before .before .pre) (c .before .before .before .before .before .before .loop .inv) _ (sym (line-end (c .before .before .before)) ∙ c .before .length .given .1) in
     search (needs, h)
 
 returns-3 : tie.Need-returns-3 Inv-loop μ-loop
 returns-3 c =
-    let text = c .before .before .before .before .before .before .before .before .args .rest .now in
-    let n = c .before .before .before .before .before .before .before .before .args .columns in
-    let l = c .before .before .before .before .before .before .loop in
-    fields-ended n text (l .values) (l .at) (l .k) (c .before .before .before .before .before .before .before .before .pre) (l .inv) _ (c .before .before .before .before .before .loop-test .left) (sym (line-end (c .before .before .before)) ∙ c .before .length .given .1)
+    fields-ended (c .before .before .before .before .before .before .before .before .pre) (c .before .before .before .before .before .before .loop .inv) _ (c .before .before .before .before .before .loop-test .left) (sym (line-end (c .before .before .before)) ∙ c .before .length .given .1)
 
 pub read-line-spec : {M : Type 1} → statement M
 read-line-spec =

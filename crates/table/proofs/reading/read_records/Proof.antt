@@ -9,7 +9,8 @@ use Rattle.laws.proofs.Lists.{rest-is}
 use Rattle.jobs.specs.Limits.{maxJobs}
 use Rattle.jobs.specs.Checks.{recordCheck}
 use Rattle.jobs.proofs.Accepted.{record-fine}
-use Rattle.table.specs.Rows.{maxColumns, lineOf}
+use Rattle.table.specs.Rows.{maxColumns}
+use Rattle.table.specs.Private.{lineOf}
 use Rattle.table.specs.Tables.{jobOf}
 use Rattle.table.proofs.Records.{RecordsRead, records-none, records-empty, records-end, records-malformed, records-refused, records-forward, records-within, records-next}
 use Rattle.table.proofs.reading.read_records.Statement.{statement}
@@ -62,10 +63,9 @@ refused-requires c κs = search needs
 
 returns : tie.Need-returns Inv-loop μ-loop
 returns c =
-    let text = c .before .before .before .before .before .before .before .before .before .before .before .args .rest .now in
     let l = c .before .before .before .before .before .before .before .loop in
     let h = c .before .before .before .before .before .before .loop-test .taken in
-    c .refused .ensures ∙ records-malformed text (l .set) (l .last) (l .at) (l .inv) (c .before .before .before .before .read-line .result) h (is-line (c .before .before .before .before)) _ (c .before .before .check .given .1)
+    c .refused .ensures ∙ records-malformed (l .inv) h (is-line (c .before .before .before .before)) _ (c .before .before .check .given .1)
 
 enum-told : tie.Need-enum-told Inv-loop μ-loop
 enum-told c = search needs
@@ -84,10 +84,9 @@ refused-requires-2 c κs = search needs
 
 returns-2 : tie.Need-returns-2 Inv-loop μ-loop
 returns-2 c =
-    let text = c .before .before .before .before .before .before .before .before .before .before .before .before .before .before .before .before .args .rest .now in
     let l = c .before .before .before .before .before .before .before .before .before .before .before .before .loop in
     let h = c .before .before .before .before .before .before .before .before .before .before .before .loop-test .taken in
-    c .refused2 .ensures ∙ records-refused text (l .set) (l .last) (l .at) (l .inv) (c .before .before .before .before .before .before .before .before .before .read-line .result) h (is-line (c .before .before .before .before .before .before .before .before .before)) (c .before .before .before .before .before .before .before .enum-told .given .1) _ (is-check (c .before .before .before .before) ∙ c .before .before .refusal .given .1)
+    c .refused2 .ensures ∙ records-refused (l .inv) h (is-line (c .before .before .before .before .before .before .before .before .before)) (c .before .before .before .before .before .before .before .enum-told .given .1) _ (is-check (c .before .before .before .before) ∙ c .before .before .refusal .given .1)
 
 enum-told-2 : tie.Need-enum-told-2 Inv-loop μ-loop
 enum-told-2 c = search needs
@@ -103,36 +102,33 @@ add-set c = let r = room c in search (needs, r)
 
 add-at : tie.Need-add-at Inv-loop μ-loop
 add-at c =
-    let text = c .before .before .before .before .before .before .before .before .before .before .before .before .before .before .before .args .rest .now in
     let l = c .before .before .before .before .before .before .before .before .before .before .before .loop in
     let h = c .before .before .before .before .before .before .before .before .before .before .loop-test .taken in
-    let w = records-within text (l .set) (l .last) (l .at) (l .inv) (c .before .before .before .before .before .before .before .before .read-line .result) h (is-line (c .before .before .before .before .before .before .before .before)) (c .before .before .before .before .before .before .enum-told .given .1) in
+    let w = records-within (l .inv) h (is-line (c .before .before .before .before .before .before .before .before)) (c .before .before .before .before .before .before .enum-told .given .1) in
     search (needs, w)
 
 loop-less : tie.Need-loop-less Inv-loop μ-loop
 loop-less c =
-    let text = c .before .before .before .before .before .before .before .before .before .before .before .before .before .before .before .args .rest .now in
     let l = c .before .before .before .before .before .before .before .before .before .before .before .loop in
     let h = c .before .before .before .before .before .before .before .before .before .before .loop-test .taken in
-    let f = records-forward text (l .set) (l .last) (l .at) (l .inv) (c .before .before .before .before .before .before .before .before .read-line .result) h (is-line (c .before .before .before .before .before .before .before .before)) (c .before .before .before .before .before .before .enum-told .given .1) in
-    let w = records-within text (l .set) (l .last) (l .at) (l .inv) (c .before .before .before .before .before .before .before .before .read-line .result) h (is-line (c .before .before .before .before .before .before .before .before)) (c .before .before .before .before .before .before .enum-told .given .1) in
+    let f = records-forward (l .inv) h (is-line (c .before .before .before .before .before .before .before .before)) (c .before .before .before .before .before .before .enum-told .given .1) in
+    let w = records-within (l .inv) h (is-line (c .before .before .before .before .before .before .before .before)) (c .before .before .before .before .before .before .enum-told .given .1) in
     omega (arith, f, w)
 
 loop-again : tie.Need-loop-again Inv-loop μ-loop
 loop-again c =
-    let text = c .before .before .before .before .before .before .before .before .before .before .before .before .before .before .before .args .rest .now in
     let l = c .before .before .before .before .before .before .before .before .before .before .before .loop in
     let h = c .before .before .before .before .before .before .before .before .before .before .loop-test .taken in
-    rw (c .before .before .before .before .job-of .ensures) (records-next text (l .set) (l .last) (l .at) (l .inv) (c .before .before .before .before .before .before .before .before .read-line .result) h (is-line (c .before .before .before .before .before .before .before .before)) (c .before .before .before .before .before .before .enum-told .given .1) (is-check (c .before .before .before) ∙ c .before .enum-told2 .given .1))
+    rw (c .before .before .before .before .job-of .ensures) (records-next (l .inv) h (is-line (c .before .before .before .before .before .before .before .before)) (c .before .before .before .before .before .before .enum-told .given .1) (is-check (c .before .before .before) ∙ c .before .enum-told2 .given .1))
 
 refused-requires-3 : tie.Need-refused-requires-3 Inv-loop μ-loop
 refused-requires-3 c κs = search needs
 
 returns-3 : tie.Need-returns-3 Inv-loop μ-loop
-returns-3 c = let l = c .before .before .before .loop in c .refused3 .ensures ∙ records-empty _ (l .set) (l .last) (l .at) (l .inv) (c .before .before .loop-test .left) (c .before .if1 .taken)
+returns-3 c = let l = c .before .before .before .loop in c .refused3 .ensures ∙ records-empty (l .inv) (c .before .before .loop-test .left) (c .before .if1 .taken)
 
 returns-4 : tie.Need-returns-4 Inv-loop μ-loop
-returns-4 c = let l = c .before .before .loop in records-end _ (l .set) (l .last) (l .at) (l .inv) (c .before .loop-test .left) (omega (arith, c .if1 .left))
+returns-4 c = let l = c .before .before .loop in records-end (l .inv) (c .before .loop-test .left) (omega (arith, c .if1 .left))
 
 pub read-records-spec : {M : Type 1} → statement M
 read-records-spec =
