@@ -1,6 +1,7 @@
 -- A run as the code makes it: counters of work, what is left of it, and the time. Assumes a set and running times that have passed.
 --   Reached   what holds at the head of a run's loop
 --   Noted     the completions so far
+--   Turn      what is known in a turn of the loop after the scan
 use Prim.Native.Nat.{ℕ, zero, suc, _+_, _-_, _*_, _≤_, _<_}
 use mathlib.Core.Path.{_≡_, refl, sym, ap, subst, _∙_}
 use mathlib.Core.Bool.{true, false}
@@ -35,8 +36,8 @@ use Rattle.machine.specs.Times.{machineCheck}
 use Rattle.machine.specs.Pick.{pickUpTo, pick, bestOf}
 use Rattle.machine.specs.Steps.{moved}
 use Rattle.machine.specs.Runs.{after, entry, completion, finish, completions, runOf}
-use Rattle.machine.specs.Private.{seen, stateOf, sumOf, nextRelease, Prepared}
-use Rattle.machine.proofs.Idling.{next-after, next-le, pick-same}
+use Rattle.machine.specs.Private.{seen, stateOf, sumOf, nextTime, Prepared}
+use Rattle.machine.proofs.Idling.{next-le, time-ran, time-idle, next-later, pick-same}
 use Rattle.machine.proofs.RunningTimes.{set-accepted, times-each, times-brief, sum-limit}
 use Rattle.machine.proofs.Ticking.{pick-chosen, next-moved, advance-none, advance-found, advance-inside, advance-room, advance-work}
 use Rattle.machine.proofs.Course.{sum-worked, all-sum, sum-all, none-done, after-next, after-settled, pick-settled, Going, going, idle-early}
@@ -234,43 +235,68 @@ pub run-refused : (js : List Job) (times : List ℕ) (r : Refusal) → machineCh
 unfolding runOf
 run-refused js times r e = rw e
 
--- ---- one tick of the loop, by what the scan over the set's columns found
-module _ (set : JobSet) (columns : Columns) (times : List ℕ) (p : Prepared (jobsOf set) columns times) {work : List ℕ} {left time : ℕ}
-    (r : Reached (jobsOf set) times work left time) (more : 0 < left) (best : Best)
-    (e : best ≡ bestOf (seen (columns .chain) (columns .priority) (columns .release)) (pickUpTo (seen (columns .chain) (columns .priority) (columns .release)) times (stateOf time work) (set .count))) where
+-- ---- a turn of the loop, after the scan over the set's columns
+pub record Turn (set : JobSet) (columns : Columns) (times work : List ℕ) (left time : ℕ) (best : Best) : Type 0 where
+  pub prepared : Prepared (jobsOf set) columns times
+  pub reached : Reached (jobsOf set) times work left time
+  pub more : 0 < left
+  pub scanned : best ≡ bestOf (seen (columns .chain) (columns .priority) (columns .release)) (pickUpTo (seen (columns .chain) (columns .priority) (columns .release)) times (stateOf time work) (set .count))
+
+module _ {set : JobSet} {columns : Columns} {times work : List ℕ} {left time : ℕ} {best : Best} (turn : Turn set columns times work left time best) where
   abbrev js : List Job
   js = jobsOf set
 
+  abbrev passed : machineCheck js times ≡ Passed
+  passed = turn .prepared .checked
+
+  pub turn-early : time < lastTime
+  turn-early = reached-early js times passed (turn .reached) (turn .more)
+
   module _ (f : best .found ≡ true) where
-    pub tick-room : best .at < maxJobs
-    tick-room = advance-room set columns times p (stateOf time work) best e f
+    found : pick (tableOf js) times (stateOf time work) ≡ runs (best .at)
+    found = advance-found set columns times (turn .prepared) (stateOf time work) best (turn .scanned) f
 
-    tick-inside : best .at < length js
-    tick-inside = omega (arith, advance-inside set columns times p (stateOf time work) best e f, length-jobs set)
+    pub turn-room : best .at < maxJobs
+    turn-room = advance-room set columns times (turn .prepared) (stateOf time work) best (turn .scanned) f
 
-    pub tick-work : getD work (best .at) 0 < getD times (best .at) 0
-    tick-work = advance-work set columns times p (stateOf time work) best e f (reached-within js times (p .checked) r (best .at) tick-inside)
+    pub turn-inside : best .at < set .count
+    turn-inside = advance-inside set columns times (turn .prepared) (stateOf time work) best (turn .scanned) f
 
-    pub tick-reached : Reached js times (ListN.set work (best .at) (getD work (best .at) 0 + 1)) (left - 1) (time + 1)
-    tick-reached = reached-ran js times (p .checked) r more (best .at) (advance-found set columns times p (stateOf time work) best e f)
+    pub turn-work : getD work (best .at) 0 < getD times (best .at) 0
+    turn-work =
+        advance-work set columns times (turn .prepared) (stateOf time work) best (turn .scanned) f
+        (reached-within js times passed (turn .reached) (best .at) (omega (arith, turn-inside, length-jobs set)))
 
-    pub tick-entry : entry (tableOf js) times time ≡ runs (best .at)
-    tick-entry = reached-entry js times (p .checked) r ∙ advance-found set columns times p (stateOf time work) best e f
+    pub turn-reached : Reached js times (ListN.set work (best .at) (getD work (best .at) 0 + 1)) (left - 1) (time + 1)
+    turn-reached = reached-ran js times passed (turn .reached) (turn .more) (best .at) found
 
-  module _ (f : best .found ≡ false) (b : ℕ) (be : b ≡ nextRelease (λ i. getD (columns .release) i 0) time (set .count)) where
-    none-picked : pick (tableOf js) times (stateOf time work) ≡ idle
-    none-picked = advance-none set columns times p (stateOf time work) best e f
+    pub turn-entry : entry (tableOf js) times time ≡ runs (best .at)
+    turn-entry = reached-entry js times passed (turn .reached) ∙ found
 
-    none-before : (u : ℕ) → u < length js → time < tableOf js .earliest u → b ≤ tableOf js .earliest u
-    none-before u l later =
-        let shown = p .shown .release u l in
-        omega (arith, be, shown, length-jobs set, next-le (λ i. getD (columns .release) i 0) time (set .count) u (omega (arith, length-jobs set)) (omega (arith, shown)))
+  -- the time at which the machine is looked at again
+  module _ (later : ℕ) (e : later ≡ nextTime (best .found) (λ i. getD (columns .release) i 0) time (set .count)) where
+    pub turn-later : time < later
+    turn-later = next-later (λ i. getD (columns .release) i 0) time (set .count) (best .found) later turn-early e
 
-    pub idle-later : time < b
-    idle-later = omega (arith, be, next-after (λ i. getD (columns .release) i 0) time (reached-early js times (p .checked) r more) (set .count))
+    pub turn-ran : best .found ≡ true → later ≡ time + 1
+    turn-ran f = time-ran (λ i. getD (columns .release) i 0) time (set .count) (best .found) later f e
 
-    pub idle-reached : Reached js times work left b
-    idle-reached = reached-next js times (p .checked) r more none-picked b none-before (omega (arith, idle-later))
+    module _ (f : best .found ≡ false) where
+      none-picked : pick (tableOf js) times (stateOf time work) ≡ idle
+      none-picked = advance-none set columns times (turn .prepared) (stateOf time work) best (turn .scanned) f
 
-    pub idle-kept : (P : ℕ → Type 0) → ((s : ℕ) → entry (tableOf js) times s ≡ idle → P s → P (s + 1)) → P time → P b
-    idle-kept = kept-next js times (p .checked) r more none-picked b none-before (omega (arith, idle-later))
+      none-before : (u : ℕ) → u < length js → time < tableOf js .earliest u → later ≤ tableOf js .earliest u
+      none-before u l after =
+          let shown = turn .prepared .shown .release u l in
+          omega (
+            arith,
+            time-idle (λ i. getD (columns .release) i 0) time (set .count) (best .found) later f e,
+            shown,
+            next-le (λ i. getD (columns .release) i 0) time (set .count) u (omega (arith, length-jobs set)) (omega (arith, shown)),
+          )
+
+      pub idle-reached : Reached js times work left later
+      idle-reached = reached-next js times passed (turn .reached) (turn .more) none-picked later none-before (omega (arith, turn-later))
+
+      pub idle-kept : (P : ℕ → Type 0) → ((s : ℕ) → entry (tableOf js) times s ≡ idle → P s → P (s + 1)) → P time → P later
+      idle-kept = kept-next js times passed (turn .reached) (turn .more) none-picked later none-before (omega (arith, turn-later))

@@ -1,8 +1,9 @@
 -- The claims of specs/Claims, for every accepted set. Assumes nothing.
-use Prim.Native.Nat.{ℕ, _≤_, _+_, _*_, _<_}
+use Prim.Native.Nat.{ℕ, suc, _≤_, _+_, _*_, _<_}
 use mathlib.Core.List.{List}
 use mathlib.Core.Path.{_≡_, ap, _∙_}
 use native.Mathlib.Omega.{arith}
+use lib.Dec.{lit<}
 use native.Mathlib.Nat.{zero-add}
 use Rattle.laws.specs.Words.{tabulate}
 use Rattle.laws.proofs.Tabulate.{length-tabulate, getD-tabulate}
@@ -67,8 +68,9 @@ bounds-limited js passed =
     let ok = accepted js passed in
     let t = tableOf js in
     let well = accepted-well js ok in
+    let limit : 4 * (maxRelease + maxJobs * maxTime) + suc maxJobs * suc maxJobs * maxTime < 4 * boundLimit = lit< tt in
     let by-ert : (i : ℕ) → i < t .count → boundAt (ert t) i < boundLimit
-    = (λ i l. omega (arith, ert-limit t maxJobs (maxRelease + maxJobs * maxTime) maxTime (ok .few) (accepted-latest js ok) (accepted-most js ok) i l)) in
+    = (λ i l. omega (arith, limit, ert-limit t maxJobs (maxRelease + maxJobs * maxTime) maxTime (ok .few) (accepted-latest js ok) (accepted-most js ok) i l)) in
     record {
       by-ert = by-ert;
       by-cja = λ i l. omega (arith, by-ert i l, cja-le-ert t (well .ordered) i l);

@@ -30,14 +30,16 @@ module _ (t : Table) where
       (λ e. omega (arith, release-next i e))
       (λ ne. omega (arith, release-first (suc i) (first-after t i ne)))
 
-  pub release-range : (i : ℕ) → effectiveEarliest t i ≤ effectiveLatest t i
+  larger : (i : ℕ) → effectiveLatest t i ≡ max (t .latest i) (effectiveEarliest t i)
   unfolding effectiveLatest
-  release-range i = omega arith
+  larger i = refl
+
+  pub release-range : (i : ℕ) → effectiveEarliest t i ≤ effectiveLatest t i
+  release-range i = omega (arith, larger i)
 
   -- where one release is given, one is effective
   pub release-one : (i : ℕ) → t .latest i ≤ t .earliest i → effectiveEarliest t i ≡ effectiveLatest t i
-  unfolding effectiveLatest
-  release-one i l = omega (arith, release-own i)
+  release-one i l = omega (arith, larger i, release-own i)
 
   module _ (R M : ℕ) (hr : (u : ℕ) → u < t .count → t .earliest u ≤ R) (hm : (u : ℕ) → u < t .count → t .least u ≤ M) where
     pub release-limit : (i : ℕ) → i < t .count → effectiveEarliest t i ≤ R + i * M

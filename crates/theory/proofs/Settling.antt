@@ -175,10 +175,14 @@ module _ (t : Table) where
       (kept-same (after t n) (after t (suc n)) (rounds-grow t n) l)))))
       (λ l. l)
 
+  limit-is : roundLimit t ≡ t .count * t .count * (t .count - 1) + 2
+  unfolding roundLimit
+  limit-is = refl
+
   settles : (fuel n : ℕ) → suc n + fuel ≡ roundLimit t → roundLimit t ≤ keptAll t (after t n) + fuel + 1 → Moved (suc n)
       → Ends (settle t fuel (suc n) (after t (suc n)))
-  unfolding roundLimit after
-  settles zero n e c moved = absurd (omega (arith, kept-most (after t n)))
+  unfolding after
+  settles zero n e c moved = absurd (omega (arith, limit-is, kept-most (after t n)))
   settles (suc fuel) n e c moved =
       by-test (sameBounds (t .count) (round t (after t (suc n))) (after t (suc n)))
       (λ q. stops fuel (suc n) (omega arith) moved q)
@@ -187,8 +191,8 @@ module _ (t : Table) where
       (settles fuel (suc n) (omega arith) (omega (arith, kept-more n q)) (moved-more (suc n) moved q)))
 
   begins : (fuel : ℕ) → fuel ≡ roundLimit t → Ends (settle t fuel 0 (after t 0))
-  unfolding roundLimit after
-  begins zero e = absurd (omega arith)
+  unfolding after
+  begins zero e = absurd (omega (arith, limit-is))
   begins (suc fuel) e =
       by-test (sameBounds (t .count) (round t (itrStart t)) (itrStart t))
       (λ q. stops fuel 0 (omega arith) moved-none q)

@@ -100,7 +100,9 @@ module _ {t : Table} (well : WellFormed t) {release : ℕ → ℕ} {times : List
   busy-by : (target n v : ℕ) → v < t .count → target ≤ t .urgency v → Ready t release times run v n → (e : Entry) → entryAt run n ≡ e
       → LegalEntry t release times run n e → Busy t release times run target n
   busy-by target n v vl pv h idle q l = absurd (l v vl h)
-  busy-by target n v vl pv h (runs u) q l = record { job = u; entry = q; inside = l .0; ready = l .1; urgent = omega (arith, l .2 v vl h) }
+  busy-by target n v vl pv h (runs u) q l =
+      let above : t .urgency v ≤ t .urgency u = l .2 v vl h in
+      record { job = u; entry = q; inside = l .0; ready = l .1; urgent = omega (arith, above) }
 
   free-stays : (i n : ℕ) → release i ≤ n → PredecessorComplete t times run i (release i) → PredecessorComplete t times run i n
   free-stays zero n l b = tt

@@ -1,20 +1,15 @@
 -- `run_through` meets its contract. The loop's invariant: the state of the run at this time is reached, and its completions are noted. Assumes nothing.
-use Prim.Native.Nat.{_<_, _-_}
-use mathlib.Core.Path.{_≡_}
+use Prim.Native.Nat.{_-_}
 use mathlib.Core.Logic.{⊎-elim}
-use mathlib.Core.Bool.{true}
 use native.Mathlib.Omega.{arith}
-use lib.ListN.{getD}
 use borrow.Author.Needs.{needs}
 use denote.Ref.{now}
-use Rattle.jobs.specs.Limits.{maxJobs}
 use Rattle.jobs.specs.Jobs.{jobsOf}
 use Rattle.machine.specs.States.{lastTime}
 use Rattle.machine.specs.Private.{Prepared}
 use Rattle.machine.proofs.RunningTimes.{set-accepted, times-brief}
 use Rattle.machine.proofs.Ticking.{prepared-of, prepared-few, prepared-times}
-use Rattle.machine.proofs.Idling.{time-ran, time-idle, next-later}
-use Rattle.machine.proofs.Running.{Reached, reached-start, reached-early, reached-finish, Noted, noted-start, noted-ran, noted-idle, noted-all, run-done, tick-room, tick-work, tick-reached, tick-entry, idle-reached, idle-kept}
+use Rattle.machine.proofs.Running.{reached-start, reached-finish, Reached, Noted, noted-start, noted-ran, noted-idle, noted-all, run-done, Turn, turn-early, turn-room, turn-work, turn-reached, turn-entry, turn-later, turn-ran, idle-reached, idle-kept}
 use Rattle.machine.proofs.run.run_through.Statement.{statement}
 use Rattle.machine.proofs.run.run_through.Tie as tie
 
@@ -32,18 +27,14 @@ module _ (c : tie.After-best-of Inv-loop μ-loop) where
   abbrev made : tie.After-columns-of Inv-loop μ-loop
   made = c .before .before .before .before .before .before .before .before .before .before .before
 
+  abbrev start : tie.Start Inv-loop μ-loop
+  start = made .before .before
+
   abbrev head : tie.At-loop Inv-loop μ-loop
   head = c .before .before .before .before .before .before
 
-  more : 0 < head .loop .left
-  more = c .before .before .before .before .before .loop-test .taken
-
-  module _ (f : c .best-of .result .found ≡ true) where
-    room : c .best-of .result .at < maxJobs
-    room = tick-room _ _ _ (prepared made) (head .loop .inv .0) more _ (c .best-of .ensures) f
-
-    work-left : getD (head .loop .work) (c .best-of .result .at) 0 < getD (now (made .before .before .args .times)) (c .best-of .result .at) 0
-    work-left = tick-work _ _ _ (prepared made) (head .loop .inv .0) more _ (c .best-of .ensures) f
+  turn : Turn (start .args .set) (made .columns-of .result) (now (start .args .times)) (head .loop .work) (head .loop .left) (head .loop .time) (c .best-of .result)
+  turn = record { prepared = prepared made; reached = head .loop .inv .0; more = c .before .before .before .before .before .loop-test .taken; scanned = c .best-of .ensures }
 
 columns-of-requires : tie.Need-columns-of-requires Inv-loop μ-loop
 columns-of-requires c κs = set-accepted _ _ (c .before .pre)
@@ -58,60 +49,53 @@ best-of-requires : tie.Need-best-of-requires Inv-loop μ-loop
 best-of-requires c κs = (prepared-few _ _ _ (prepared (c .before .before .before .before .before .before .before .before .before .before)), prepared-times _ _ _ (prepared (c .before .before .before .before .before .before .before .before .before .before)))
 
 mul-work : tie.Need-mul-work Inv-loop μ-loop
-mul-work c = omega (arith, room (c .before) (c .if1 .taken))
+mul-work c = omega (arith, turn-room (turn (c .before)) (c .if1 .taken))
 
 array-read-work : tie.Need-array-read-work Inv-loop μ-loop
-array-read-work c = room (c .before) (c .if1 .taken)
+array-read-work c = turn-room (turn (c .before)) (c .if1 .taken)
 
 add-work : tie.Need-add-work Inv-loop μ-loop
-add-work c = omega (arith, work-left (c .before) (c .if1 .taken), c .before .before .before .before .before .before .before .before .before .before .before .before .before .shared-slice-known .given (c .before .best-of .result .at))
+add-work c = omega (arith, turn-work (turn (c .before)) (c .if1 .taken), c .before .before .before .before .before .before .before .before .before .before .before .before .before .shared-slice-known .given (c .before .best-of .result .at))
 
 mul-work-2 : tie.Need-mul-work-2 Inv-loop μ-loop
-mul-work-2 c = omega (arith, room (c .before) (c .if1 .taken))
+mul-work-2 c = omega (arith, turn-room (turn (c .before)) (c .if1 .taken))
 
 array-write-work : tie.Need-array-write-work Inv-loop μ-loop
-array-write-work c = room (c .before) (c .if1 .taken)
+array-write-work c = turn-room (turn (c .before)) (c .if1 .taken)
 
 add-completions : tie.Need-add-completions Inv-loop μ-loop
-add-completions c = omega (arith, reached-early _ _ (c .before .before .before .before .before .before .before .before .before .before .before .before .before .before .pre) (c .before .before .before .before .before .before .before .loop .inv .0) (c .before .before .before .before .before .before .loop-test .taken))
+add-completions c = omega (arith, turn-early (turn (c .before)))
 
 mul-completions : tie.Need-mul-completions Inv-loop μ-loop
-mul-completions c = omega (arith, room (c .before) (c .if1 .taken))
+mul-completions c = omega (arith, turn-room (turn (c .before)) (c .if1 .taken))
 
 array-write-completions : tie.Need-array-write-completions Inv-loop μ-loop
-array-write-completions c = room (c .before) (c .if1 .taken)
+array-write-completions c = turn-room (turn (c .before)) (c .if1 .taken)
 
 sub-left : tie.Need-sub-left Inv-loop μ-loop
 sub-left c = search needs
 
 next-time-requires : tie.Need-next-time-requires Inv-loop μ-loop
-next-time-requires c κs =
-    let scan = c .before .before in
-    (prepared-few _ _ _ (prepared (made scan)), reached-early _ _ (c .before .before .before .before .before .before .before .before .before .before .before .before .before .before .before .pre) (head scan .loop .inv .0) (more scan))
+next-time-requires c κs = let t = turn (c .before .before) in (prepared-few _ _ _ (t .prepared), turn-early t)
 
 loop-less : tie.Need-loop-less Inv-loop μ-loop
-loop-less c =
-    let scan = c .before .before .before in
-    let early = reached-early _ _ (c .before .before .before .before .before .before .before .before .before .before .before .before .before .before .before .before .pre) (head scan .loop .inv .0) (more scan) in
-    omega (arith, early, next-later _ (head scan .loop .time) _ _ _ early (c .next-time .ensures))
+loop-less c = let t = turn (c .before .before .before) in omega (arith, turn-early t, turn-later t _ (c .next-time .ensures))
 
 loop-again : tie.Need-loop-again Inv-loop μ-loop
 loop-again c =
     let scan = c .before .before .before in
-    let h = head scan .loop .inv in
+    let t = turn scan in
+    let passed = start scan .pre in
+    let noted = head scan .loop .inv .1 in
     ⊎-elim
     (λ w.
     let f = w .0 .taken in
-    rw (w .1, w .2, w .3, time-ran _ (head scan .loop .time) _ _ _ f (c .next-time .ensures)) (
-      tick-reached _ _ _ (prepared (made scan)) (h .0) (more scan) _ (scan .best-of .ensures) f,
-      noted-ran _ _ (c .before .before .before .before .before .before .before .before .before .before .before .before .before .before .before .before .pre) (h .1) _ (room scan f) (tick-entry _ _ _ (prepared (made scan)) (h .0) (more scan) _ (scan .best-of .ensures) f),
-    ))
+    rw (w .1, w .2, w .3, turn-ran t _ (c .next-time .ensures) f) (turn-reached t f, noted-ran _ _ passed noted _ (turn-room t f) (turn-entry t f)))
     (λ w.
     let f = w .0 .left in
-    let on = time-idle _ (head scan .loop .time) _ _ _ f (c .next-time .ensures) in
     rw (w .1, w .2, w .3) (
-      idle-reached _ _ _ (prepared (made scan)) (h .0) (more scan) _ (scan .best-of .ensures) f _ on,
-      idle-kept _ _ _ (prepared (made scan)) (h .0) (more scan) _ (scan .best-of .ensures) f _ on (Noted _ _ (head scan .loop .completions)) (λ n e kept. noted-idle _ _ (c .before .before .before .before .before .before .before .before .before .before .before .before .before .before .before .before .pre) kept e) (h .1),
+      idle-reached t _ (c .next-time .ensures) f,
+      idle-kept t _ (c .next-time .ensures) f (Noted _ _ (head scan .loop .completions)) (λ n e kept. noted-idle _ _ passed kept e) noted,
     ))
     (c .before .before .if1 .came)
 

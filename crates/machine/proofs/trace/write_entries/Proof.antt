@@ -4,23 +4,19 @@ use mathlib.Core.Path.{_≡_, sym, ap}
 use mathlib.Core.Logic.{⊎-elim}
 use mathlib.Core.Bool.{true}
 use native.Mathlib.Omega.{arith}
-use lib.ListN.{length, getD, length-set}
+use lib.ListN.{length, length-set}
 use borrow.Author.Needs.{needs}
 use denote.Ref.{now}
 use Rattle.jobs.specs.Limits.{maxJobs}
 use Rattle.jobs.specs.Jobs.{jobsOf}
 use Rattle.jobs.proofs.Sets.{length-jobs, job-at}
 use Rattle.jobs.specs.declared.job.Job.{Job}
-use Rattle.theory.specs.Table.{tableOf}
-use Rattle.theory.specs.Runs.{runs}
 use Rattle.machine.specs.declared.trace.Put.{Put}
 use Rattle.machine.specs.States.{lastTime}
-use Rattle.machine.specs.Runs.{entry}
 use Rattle.machine.specs.Private.{Prepared, putAt}
 use Rattle.machine.proofs.RunningTimes.{set-accepted, times-brief}
-use Rattle.machine.proofs.Ticking.{prepared-of, prepared-few, prepared-times, advance-inside}
-use Rattle.machine.proofs.Idling.{time-ran, time-idle, next-later}
-use Rattle.machine.proofs.Running.{Reached, reached-start, reached-early, tick-room, tick-work, tick-reached, tick-entry, idle-reached, idle-kept}
+use Rattle.machine.proofs.Ticking.{prepared-of, prepared-few, prepared-times}
+use Rattle.machine.proofs.Running.{Reached, reached-start, Turn, turn-early, turn-room, turn-inside, turn-work, turn-reached, turn-entry, turn-later, turn-ran, idle-reached, idle-kept}
 use Rattle.machine.proofs.Tracing.{Written, written-start, written-few, written-length, written-idle, put-room, put-few, written-ran, written-count, written-all}
 use Rattle.machine.proofs.trace.write_entries.Statement.{statement}
 use Rattle.machine.proofs.trace.write_entries.Tie as tie
@@ -48,27 +44,16 @@ module _ (c : tie.After-best-of Inv-loop μ-loop) where
   abbrev head : tie.At-loop Inv-loop μ-loop
   head = c .before .before .before .before .before .before
 
-  more : 0 < head .loop .left
-  more = c .before .before .before .before .before .loop-test .taken
+  turn : Turn (begun .args .t1) (made .columns-of .result) (now (begun .args .times)) (head .loop .work) (head .loop .left) (head .loop .time) (c .best-of .result)
+  turn = record { prepared = prepared made; reached = head .loop .inv .0; more = c .before .before .before .before .before .loop-test .taken; scanned = c .best-of .ensures }
 
-  module _ (f : c .best-of .result .found ≡ true) where
-    room : c .best-of .result .at < maxJobs
-    room = tick-room _ _ _ (prepared made) (head .loop .inv .0) more _ (c .best-of .ensures) f
+  -- the entry that is written has its four places
+  module _ (f : c .best-of .result .found ≡ true) (p : Put) (e : p ≡ putAt (head .loop .last) (head .loop .entries) (c .best-of .result .at) (head .loop .time)) where
+    small : 4 * p .entry + 3 < 8 * maxJobs
+    small = put-few _ _ _ (begun .pre .0) (wide begun) (head .loop .inv .1) _ (turn-entry turn f) p e
 
-    inside : c .best-of .result .at < begun .args .t1 .count
-    inside = advance-inside _ _ _ (prepared made) _ _ (c .best-of .ensures) f
-
-    work-left : getD (head .loop .work) (c .best-of .result .at) 0 < getD (now (begun .args .times)) (c .best-of .result .at) 0
-    work-left = tick-work _ _ _ (prepared made) (head .loop .inv .0) more _ (c .best-of .ensures) f
-
-    ran : entry (tableOf (jobsOf (begun .args .t1))) (now (begun .args .times)) (head .loop .time) ≡ runs (c .best-of .result .at)
-    ran = tick-entry _ _ _ (prepared made) (head .loop .inv .0) more _ (c .best-of .ensures) f
-
-    small : (p : Put) → p ≡ putAt (head .loop .last) (head .loop .entries) (c .best-of .result .at) (head .loop .time) → 4 * p .entry + 3 < 8 * maxJobs
-    small p e = put-few _ _ _ (begun .pre .0) (wide begun) (head .loop .inv .1) _ ran p e
-
-    fits : (p : Put) → p ≡ putAt (head .loop .last) (head .loop .entries) (c .best-of .result .at) (head .loop .time) → 4 * p .entry + 3 < length (head .loop .out)
-    fits p e = put-room _ _ _ (begun .pre .0) (wide begun) (head .loop .inv .1) _ ran p e
+    fits : 4 * p .entry + 3 < length (head .loop .out)
+    fits = put-room _ _ _ (begun .pre .0) (wide begun) (head .loop .inv .1) _ (turn-entry turn f) p e
 
 columns-of-requires : tie.Need-columns-of-requires Inv-loop μ-loop
 columns-of-requires c κs = set-accepted _ _ (c .before .before .pre .0)
@@ -83,16 +68,16 @@ best-of-requires : tie.Need-best-of-requires Inv-loop μ-loop
 best-of-requires c κs = (prepared-few _ _ _ (prepared (c .before .before .before .before .before .before .before .before .before .before)), prepared-times _ _ _ (prepared (c .before .before .before .before .before .before .before .before .before .before)))
 
 put-at-requires : tie.Need-put-at-requires Inv-loop μ-loop
-put-at-requires c κs = (written-few _ _ _ (c .before .before .before .before .before .before .before .before .before .before .before .before .before .before .before .pre .0) (wide (c .before .before .before .before .before .before .before .before .before .before .before .before .before .before .before)) (c .before .before .before .before .before .before .before .loop .inv .1), reached-early _ _ (c .before .before .before .before .before .before .before .before .before .before .before .before .before .before .before .pre .0) (c .before .before .before .before .before .before .before .loop .inv .0) (c .before .before .before .before .before .before .loop-test .taken))
+put-at-requires c κs = let scan = c .before in (written-few _ _ _ (begun scan .pre .0) (wide (begun scan)) (head scan .loop .inv .1), turn-early (turn scan))
 
 mul-k : tie.Need-mul-k Inv-loop μ-loop
 mul-k c = omega (arith, small (c .before .before .before .before) (c .before .before .before .if1 .taken) _ (c .before .before .put-at .ensures))
 
 mul-out : tie.Need-mul-out Inv-loop μ-loop
-mul-out c = omega (arith, room (c .before .before .before .before) (c .before .before .before .if1 .taken))
+mul-out c = omega (arith, turn-room (turn (c .before .before .before .before)) (c .before .before .before .if1 .taken))
 
 element-copy-out-out : tie.Need-element-copy-out-out Inv-loop μ-loop
-element-copy-out-out c = room (c .before .before .before .before) (c .before .before .before .if1 .taken)
+element-copy-out-out c = turn-room (turn (c .before .before .before .before)) (c .before .before .before .if1 .taken)
 
 mul-out-2 : tie.Need-mul-out-2 Inv-loop μ-loop
 mul-out-2 c = omega (arith, small (c .before .before .before .before) (c .before .before .before .if1 .taken) _ (c .before .before .put-at .ensures))
@@ -101,10 +86,10 @@ slice-write-out : tie.Need-slice-write-out Inv-loop μ-loop
 slice-write-out c = omega (arith, fits (c .before .before .before .before) (c .before .before .before .if1 .taken) _ (c .before .before .put-at .ensures))
 
 mul-out-3 : tie.Need-mul-out-3 Inv-loop μ-loop
-mul-out-3 c = omega (arith, room (c .before .before .before .before) (c .before .before .before .if1 .taken))
+mul-out-3 c = omega (arith, turn-room (turn (c .before .before .before .before)) (c .before .before .before .if1 .taken))
 
 element-copy-out-out-2 : tie.Need-element-copy-out-out-2 Inv-loop μ-loop
-element-copy-out-out-2 c = room (c .before .before .before .before) (c .before .before .before .if1 .taken)
+element-copy-out-out-2 c = turn-room (turn (c .before .before .before .before)) (c .before .before .before .if1 .taken)
 
 add-out : tie.Need-add-out Inv-loop μ-loop
 add-out c = omega (arith, small (c .before .before .before .before) (c .before .before .before .if1 .taken) _ (c .before .before .put-at .ensures))
@@ -134,53 +119,48 @@ slice-write-out-4 : tie.Need-slice-write-out-4 Inv-loop μ-loop
 slice-write-out-4 c = rw (length-set, length-set, length-set) (omega (arith, fits (c .before .before .before .before) (c .before .before .before .if1 .taken) _ (c .before .before .put-at .ensures)))
 
 mul-work : tie.Need-mul-work Inv-loop μ-loop
-mul-work c = omega (arith, room (c .before .before .before .before) (c .before .before .before .if1 .taken))
+mul-work c = omega (arith, turn-room (turn (c .before .before .before .before)) (c .before .before .before .if1 .taken))
 
 array-read-work : tie.Need-array-read-work Inv-loop μ-loop
-array-read-work c = room (c .before .before .before .before) (c .before .before .before .if1 .taken)
+array-read-work c = turn-room (turn (c .before .before .before .before)) (c .before .before .before .if1 .taken)
 
 add-work : tie.Need-add-work Inv-loop μ-loop
-add-work c = omega (arith, work-left (c .before .before .before .before) (c .before .before .before .if1 .taken), c .before .before .before .before .before .before .before .before .before .before .before .before .before .before .before .before .before .shared-slice-known .given (c .before .before .before .before .best-of .result .at))
+add-work c = omega (arith, turn-work (turn (c .before .before .before .before)) (c .before .before .before .if1 .taken), c .before .before .before .before .before .before .before .before .before .before .before .before .before .before .before .before .before .shared-slice-known .given (c .before .before .before .before .best-of .result .at))
 
 mul-work-2 : tie.Need-mul-work-2 Inv-loop μ-loop
-mul-work-2 c = omega (arith, room (c .before .before .before .before) (c .before .before .before .if1 .taken))
+mul-work-2 c = omega (arith, turn-room (turn (c .before .before .before .before)) (c .before .before .before .if1 .taken))
 
 array-write-work : tie.Need-array-write-work Inv-loop μ-loop
-array-write-work c = room (c .before .before .before .before) (c .before .before .before .if1 .taken)
+array-write-work c = turn-room (turn (c .before .before .before .before)) (c .before .before .before .if1 .taken)
 
 sub-left : tie.Need-sub-left Inv-loop μ-loop
 sub-left c = search needs
 
 next-time-requires : tie.Need-next-time-requires Inv-loop μ-loop
-next-time-requires c κs =
-    let scan = c .before .before in
-    (prepared-few _ _ _ (prepared (made scan)), reached-early _ _ (begun scan .pre .0) (head scan .loop .inv .0) (more scan))
+next-time-requires c κs = let t = turn (c .before .before) in (prepared-few _ _ _ (t .prepared), turn-early t)
 
 loop-less : tie.Need-loop-less Inv-loop μ-loop
-loop-less c =
-    let scan = c .before .before .before in
-    let early = reached-early _ _ (begun scan .pre .0) (head scan .loop .inv .0) (more scan) in
-    omega (arith, early, next-later _ (head scan .loop .time) _ _ _ early (c .next-time .ensures))
+loop-less c = let t = turn (c .before .before .before) in omega (arith, turn-early t, turn-later t _ (c .next-time .ensures))
 
 loop-again : tie.Need-loop-again Inv-loop μ-loop
 loop-again c =
     let scan = c .before .before .before in
-    let h = head scan .loop .inv in
+    let t = turn scan in
     let passed = begun scan .pre .0 in
+    let written = head scan .loop .inv .1 in
     ⊎-elim
     (λ w.
     let f = w .0 .taken in
-    let j = job-at (begun scan .args .t1) (scan .best-of .result .at) (inside scan f) in
-    rw (w .4, w .5, w .6, w .7, w .8, time-ran _ (head scan .loop .time) _ _ _ f (c .next-time .ensures)) (
-      tick-reached _ _ _ (prepared (made scan)) (h .0) (more scan) _ (scan .best-of .ensures) f,
-      written-ran _ _ _ passed (wide (begun scan)) (h .1) _ (ran scan f) _ (w .1 .ensures) _ _ (ap (λ (x : Job). x .chain) (sym j)) (ap (λ (x : Job). x .job) (sym j)),
+    let j = job-at (begun scan .args .t1) (scan .best-of .result .at) (turn-inside t f) in
+    rw (w .4, w .5, w .6, w .7, w .8, turn-ran t _ (c .next-time .ensures) f) (
+      turn-reached t f,
+      written-ran _ _ _ passed (wide (begun scan)) written _ (turn-entry t f) _ (w .1 .ensures) _ _ (ap (λ (x : Job). x .chain) (sym j)) (ap (λ (x : Job). x .job) (sym j)),
     ))
     (λ w.
     let f = w .0 .left in
-    let on = time-idle _ (head scan .loop .time) _ _ _ f (c .next-time .ensures) in
     rw (w .1, w .2, w .3, w .4, w .5) (
-      idle-reached _ _ _ (prepared (made scan)) (h .0) (more scan) _ (scan .best-of .ensures) f _ on,
-      idle-kept _ _ _ (prepared (made scan)) (h .0) (more scan) _ (scan .best-of .ensures) f _ on (Written (jobsOf (begun scan .args .t1)) (now (begun scan .args .times)) (now (begun scan .args .out)) (head scan .loop .out) (head scan .loop .last) (head scan .loop .entries)) (λ n e kept. written-idle _ _ _ passed (wide (begun scan)) kept e) (h .1),
+      idle-reached t _ (c .next-time .ensures) f,
+      idle-kept t _ (c .next-time .ensures) f (Written (jobsOf (begun scan .args .t1)) (now (begun scan .args .times)) (now (begun scan .args .out)) (head scan .loop .out) (head scan .loop .last) (head scan .loop .entries)) (λ n e kept. written-idle _ _ _ passed (wide (begun scan)) kept e) written,
     ))
     (c .before .before .if1 .came)
 
