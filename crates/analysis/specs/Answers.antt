@@ -5,8 +5,9 @@ use Rattle.jobs.specs.declared.job.Job.{Job}
 use Rattle.jobs.specs.declared.set.JobSet.{JobSet}
 use Rattle.jobs.specs.declared.refusal.Refusal.the-variants.{UnknownAlgorithm}
 use Rattle.jobs.specs.declared.refusal.Check.{Check}
-use Rattle.jobs.specs.declared.refusal.Check.the-variants.{Passed, Refused as Stopped}
+use Rattle.jobs.specs.declared.refusal.Check.the-variants.{Passed}
 use Rattle.jobs.specs.Limits.{maxJobs}
+use Rattle.jobs.specs.Refusals.{onPass}
 use Rattle.jobs.specs.Jobs.{jobsOf, setOf}
 use Rattle.jobs.specs.Checks.{checkOf}
 use Rattle.jobs.specs.Joins.{withChain, joinCheck}
@@ -23,10 +24,13 @@ use Rattle.analysis.specs.declared.answer.Verdict.{Verdict}
 use Rattle.analysis.specs.declared.answer.Verdict.the-variants.{Yes, No, Refused}
 use Rattle.analysis.specs.declared.answer.Admission.{Admission}
 
--- ERT or CJA bounds in an answer; none on a refusal.
+-- A figure of each job in an answer; none on a refusal.
+abbrev pub eachJob : {A : Type 0} → A → Check → List A → List A
+eachJob unused check each = padded maxJobs unused (onPass check (λ refusal. []) each)
+
+-- ERT or CJA bounds in an answer.
 abbrev pub boundsWith : Check → List ℕ → Bounds
-boundsWith Passed bounds = record { check = Passed; bounds = padded maxJobs 0 bounds }
-boundsWith (Stopped refusal) bounds = record { check = Stopped refusal; bounds = padded maxJobs 0 [] }
+boundsWith check bounds = record { check = check; bounds = eachJob 0 check bounds }
 
 -- The ERT bounds of a set.
 unfoldable pub ertOf : JobSet → Bounds
@@ -36,43 +40,29 @@ ertOf set = boundsWith (checkOf (jobsOf set)) (ert (tableOf (jobsOf set)))
 unfoldable pub cjaOf : JobSet → Bounds
 cjaOf set = boundsWith (checkOf (jobsOf set)) (cja (tableOf (jobsOf set)))
 
--- The ITR bounds and the number of rounds in an answer; neither on a refusal.
+-- The ITR bounds and the number of rounds in an answer.
 abbrev pub itrWith : Check → Answer → Itr
-itrWith Passed answer = record { check = Passed; bounds = padded maxJobs 0 (answer .bounds); rounds = answer .rounds }
-itrWith (Stopped refusal) answer = record { check = Stopped refusal; bounds = padded maxJobs 0 []; rounds = 0 }
+itrWith check answer =
+    record { check = check; bounds = eachJob 0 check (answer .bounds); rounds = onPass check (λ refusal. 0) (answer .rounds) }
 
 -- The ITR answer of a set.
 unfoldable pub itrOf : JobSet → Itr
 itrOf set = itrWith (checkOf (jobsOf set)) (itr (tableOf (jobsOf set)))
 
--- Slacks in an answer; none on a refusal.
-abbrev pub slacksWith : Check → List ℤ → Slacks
-slacksWith Passed each = record { check = Passed; slacks = padded maxJobs (pos 0) each }
-slacksWith (Stopped refusal) each = record { check = Stopped refusal; slacks = padded maxJobs (pos 0) [] }
-
 -- Each job's deadline less its ITR bound.
 unfoldable pub slacksOf : JobSet → Slacks
-slacksOf set = slacksWith (checkOf (jobsOf set)) (slacks (jobsOf set))
+slacksOf set = let js = jobsOf set in record { check = checkOf js; slacks = eachJob (pos 0) (checkOf js) (slacks js) }
 
--- All figures in one answer; none on a refusal.
+-- All figures in one answer.
 abbrev pub figuresWith : Check → List ℕ → List ℕ → Answer → List ℤ → Figures
-figuresWith Passed byErt byCja answer each =
+figuresWith check byErt byCja answer each =
     record {
-      check = Passed;
-      ert = padded maxJobs 0 byErt;
-      cja = padded maxJobs 0 byCja;
-      itr = padded maxJobs 0 (answer .bounds);
-      rounds = answer .rounds;
-      slacks = padded maxJobs (pos 0) each;
-    }
-figuresWith (Stopped refusal) byErt byCja answer each =
-    record {
-      check = Stopped refusal;
-      ert = padded maxJobs 0 [];
-      cja = padded maxJobs 0 [];
-      itr = padded maxJobs 0 [];
-      rounds = 0;
-      slacks = padded maxJobs (pos 0) [];
+      check = check;
+      ert = eachJob 0 check byErt;
+      cja = eachJob 0 check byCja;
+      itr = eachJob 0 check (answer .bounds);
+      rounds = onPass check (λ refusal. 0) (answer .rounds);
+      slacks = eachJob (pos 0) check each;
     }
 
 -- The three bounds, the rounds and the slacks of a set.
@@ -94,14 +84,9 @@ verdictBy js algorithm =
     (cond (eqb algorithm 3) (verdictIs (meets js (itr (tableOf js) .bounds) (length js)))
     (Refused UnknownAlgorithm)))
 
--- A verdict, where the check before it passes.
-abbrev pub verdictAfter : Check → Verdict → Verdict
-verdictAfter Passed verdict = verdict
-verdictAfter (Stopped refusal) verdict = Refused refusal
-
 -- The verdict on a set; its own refusals come first.
 unfoldable pub verdictOf : JobSet → ℕ → Verdict
-verdictOf set algorithm = verdictAfter (checkOf (jobsOf set)) (verdictBy (jobsOf set) algorithm)
+verdictOf set algorithm = onPass (checkOf (jobsOf set)) Refused (verdictBy (jobsOf set) algorithm)
 
 -- The answer to admission: only a yes lets the joined set in.
 abbrev pub admitted : Verdict → JobSet → JobSet → Admission
@@ -113,7 +98,7 @@ admitted (Refused refusal) old joined = record { verdict = Refused refusal; set 
 unfoldable pub admissionOf : JobSet → JobSet → ℕ → Admission
 admissionOf old new algorithm =
     let joined = withChain (jobsOf old) (jobsOf new) in
-    admitted (verdictAfter (joinCheck (jobsOf old) (jobsOf new)) (verdictBy joined algorithm)) old (setOf joined)
+    admitted (onPass (joinCheck (jobsOf old) (jobsOf new)) Refused (verdictBy joined algorithm)) old (setOf joined)
 
 -- The number of rounds in the ITR answer of n jobs: it is that of the first round whose bounds equal the previous ones, it is at most
 -- n × n × (n − 1) + 2, and at most n where there is a job.

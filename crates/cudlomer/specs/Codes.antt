@@ -8,7 +8,7 @@ use Rattle.theory.specs.Table.{tableOf}
 use Rattle.theory.specs.Rounds.{itr}
 use Rattle.analysis.specs.declared.answer.Verdict.{Verdict}
 use Rattle.analysis.specs.declared.answer.Verdict.the-variants.{Yes, No, Refused}
-use Rattle.analysis.specs.Answers.{verdictAfter, verdictBy}
+use Rattle.analysis.specs.Answers.{verdictBy}
 use Rattle.report.specs.declared.written.Written.{Written}
 use Rattle.report.specs.declared.written.Written.the-variants.{Bytes, Refused as Unwritten}
 
@@ -29,7 +29,7 @@ verdictCode (Refused refusal) = refusalCode refusal
 
 -- The verdict on a table's text; the refusals of reading come first.
 unfoldable pub verdictOfTable : List ℕ → ℕ → Verdict
-verdictOfTable text algorithm = let reading = readingOf text in verdictAfter (reading .check) (verdictBy (jobsOf (reading .set)) algorithm)
+verdictOfTable text algorithm = let reading = readingOf text in onPass (reading .check) Refused (verdictBy (jobsOf (reading .set)) algorithm)
 
 -- The rounds of ITR on a table's text, or the refusal of reading.
 unfoldable pub roundsOfTable : List ℕ → ℤ
