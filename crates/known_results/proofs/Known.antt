@@ -1,10 +1,11 @@
 -- The definitions give what is known of each case, figure by figure and by computation; P1 is accepted, so that demand 3 holds of it. Assumes nothing.
 --   settled-run     a run is what its ticks up to its end give, where all work is done after them
 --   known-results   the table of cases is as the definitions have it
+-- `[]` is imported for the prover's messages alone: without it they do not show which figure of a list is wrong.
 use Prim.Native.Nat.{ℕ, _≤_}
 use mathlib.Core.Path.{_≡_, refl}
 use mathlib.Core.Bool.{true, false}
-use mathlib.Core.List.{List, _∷_, map}
+use mathlib.Core.List.{List, [], _∷_, map}
 use native.Mathlib.Omega.{arith}
 use lib.IntN.{pos}
 use lib.ListN.{length, getD}
