@@ -1,6 +1,6 @@
 // The functions that C calls. Each answers a number from 0 on, or the number of the refusal negated.
 ghost use Rattle.laws.specs.Words.{_≡_};
-ghost use Rattle.report.specs.Texts.{boundsAnswer, boundsLeft, traceAnswer, traceLeft};
+ghost use Rattle.report.specs.Texts.{boundsText, traceText, answerFor, leftFor};
 ghost use Rattle.cudlomer.specs.Codes.{refusalCode, writtenCode, verdictCode, verdictOfTable, roundsOfTable};
 use analysis::answer::Verdict;
 use analysis::itr::itr;
@@ -31,7 +31,7 @@ fn code_of(answer: Written) -> i64
 // Writes the bounds text of a table into out, and answers the bytes written.
 #[no_mangle]
 pub extern "C" fn cudlomer_bounds(text: &[u8], out: &mut [u8]) -> i64
-    ensures { λ r. ⌜ (r ≡ writtenCode (boundsAnswer (now (text .entry)) (now (out .entry)))) × (now (out .exit) ≡ boundsLeft (now (text .entry)) (now (out .entry))) ⌝ }
+    ensures { λ r. ⌜ (r ≡ writtenCode (answerFor boundsText (now (text .entry)) (now (out .entry)))) × (now (out .exit) ≡ leftFor boundsText (now (text .entry)) (now (out .entry))) ⌝ }
 {
     code_of(bounds_text(text, out))
 }
@@ -39,7 +39,7 @@ pub extern "C" fn cudlomer_bounds(text: &[u8], out: &mut [u8]) -> i64
 // Writes the trace text of a table into out, and answers the bytes written.
 #[no_mangle]
 pub extern "C" fn cudlomer_trace(text: &[u8], out: &mut [u8]) -> i64
-    ensures { λ r. ⌜ (r ≡ writtenCode (traceAnswer (now (text .entry)) (now (out .entry)))) × (now (out .exit) ≡ traceLeft (now (text .entry)) (now (out .entry))) ⌝ }
+    ensures { λ r. ⌜ (r ≡ writtenCode (answerFor traceText (now (text .entry)) (now (out .entry)))) × (now (out .exit) ≡ leftFor traceText (now (text .entry)) (now (out .entry))) ⌝ }
 {
     code_of(trace_text(text, out))
 }

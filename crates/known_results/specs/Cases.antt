@@ -12,34 +12,6 @@ use Rattle.theory.specs.Verdicts.{slacks, meets}
 use Rattle.machine.specs.Runs.{runOf}
 use Rattle.machine.specs.Traces.{rows, traced}
 
--- What is known of a table: the check of its set and, in table order, effective releases, interference, bounds and slacks; ITR's rounds and verdict.
-pub record Answers : Type 0 where
-  pub check : Check
-  pub releases : List ℕ
-  pub interferences : List ℕ
-  pub ertBounds : List ℕ
-  pub cjaBounds : List ℕ
-  pub itrBounds : List ℕ
-  pub slack : List ℤ
-  pub rounds : ℕ
-  pub verdict : Bool
-
--- The same, by the definitions.
-unfoldable pub answersOf : List Job → Answers
-answersOf js =
-    let t = tableOf js in
-    record {
-      check = checkOf js;
-      releases = tabulate 0 (length js) (t .earliest);
-      interferences = tabulate 0 (length js) (interferenceAt t);
-      ertBounds = ert t;
-      cjaBounds = cja t;
-      itrBounds = itr t .bounds;
-      slack = slacks js;
-      rounds = itr t .rounds;
-      verdict = meets js (itr t .bounds) (length js);
-    }
-
 -- Running times and what is known of the run with them: its check, each job's completion in table order, its end, the rows of its trace.
 pub record KnownRun : Type 0 where
   pub times : List ℕ
@@ -60,15 +32,38 @@ runWith js times =
       rows = rows js (traced js times);
     }
 
--- The records of a table, what is known of it and of its runs.
+-- A table and what is known of it: its check, in table order effective releases, interference, bounds and slacks, ITR's rounds and verdict, and runs.
 pub record Case : Type 0 where
   pub jobs : List Job
-  pub known : Answers
+  pub check : Check
+  pub releases : List ℕ
+  pub interferences : List ℕ
+  pub ertBounds : List ℕ
+  pub cjaBounds : List ℕ
+  pub itrBounds : List ℕ
+  pub slack : List ℤ
+  pub rounds : ℕ
+  pub verdict : Bool
   pub runs : List KnownRun
 
 -- A case with every answer worked out by the definitions.
 unfoldable pub byDefinition : Case → Case
-byDefinition c = record { jobs = c .jobs; known = answersOf (c .jobs); runs = map (λ r. runWith (c .jobs) (r .times)) (c .runs) }
+byDefinition c =
+    let js = c .jobs in
+    let t = tableOf js in
+    record {
+      jobs = js;
+      check = checkOf js;
+      releases = tabulate 0 (length js) (t .earliest);
+      interferences = tabulate 0 (length js) (interferenceAt t);
+      ertBounds = ert t;
+      cjaBounds = cja t;
+      itrBounds = itr t .bounds;
+      slack = slacks js;
+      rounds = itr t .rounds;
+      verdict = meets js (itr t .bounds) (length js);
+      runs = map (λ r. runWith js (r .times)) (c .runs);
+    }
 
 -- A record of a table, in the order of its columns.
 abbrev pub job : ℕ → ℕ → ℕ → ℕ → ℕ → ℕ → ℕ → Job
@@ -87,17 +82,15 @@ abbrev pub accepted : List Known → ℕ → Bool → List KnownRun → Case
 accepted jobs rounds verdict runs =
     record {
       jobs = map (λ (j : Known). j .0) jobs;
-      known = record {
-        check = Passed;
-        releases = map (λ (j : Known). j .1) jobs;
-        interferences = map (λ (j : Known). j .2) jobs;
-        ertBounds = map (λ (j : Known). j .3) jobs;
-        cjaBounds = map (λ (j : Known). j .4) jobs;
-        itrBounds = map (λ (j : Known). j .5) jobs;
-        slack = map (λ (j : Known). j .6) jobs;
-        rounds = rounds;
-        verdict = verdict;
-      };
+      check = Passed;
+      releases = map (λ (j : Known). j .1) jobs;
+      interferences = map (λ (j : Known). j .2) jobs;
+      ertBounds = map (λ (j : Known). j .3) jobs;
+      cjaBounds = map (λ (j : Known). j .4) jobs;
+      itrBounds = map (λ (j : Known). j .5) jobs;
+      slack = map (λ (j : Known). j .6) jobs;
+      rounds = rounds;
+      verdict = verdict;
       runs = runs;
     }
 

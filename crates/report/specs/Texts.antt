@@ -41,18 +41,10 @@ traceText js = traceHeader ++ spansText js (traced js (mostTimes js))
 unfoldable pub answerTo : List ℕ → List ℕ → Written
 answerTo text buffer = cond (leb (length text) (length buffer)) (Bytes (length text)) (Refused ShortBuffer)
 
--- The answer to the bounds text of a table, after the refusals of reading.
-unfoldable pub boundsAnswer : List ℕ → List ℕ → Written
-boundsAnswer table buffer = let reading = readingOf table in onPass (reading .check) Refused (answerTo (boundsText (jobsOf (reading .set))) buffer)
+-- The answer to writing a text of a table's jobs into a buffer: the refusals of reading come first, then 9.
+unfoldable pub answerFor : (List Job → List ℕ) → List ℕ → List ℕ → Written
+answerFor textOf table buffer = let reading = readingOf table in onPass (reading .check) Refused (answerTo (textOf (jobsOf (reading .set))) buffer)
 
 -- The buffer after it, as it was where there is a refusal.
-unfoldable pub boundsLeft : List ℕ → List ℕ → List ℕ
-boundsLeft table buffer = let reading = readingOf table in onPass (reading .check) (λ refusal. buffer) (written (boundsText (jobsOf (reading .set))) buffer)
-
--- The answer to the trace text of a table, after the refusals of reading.
-unfoldable pub traceAnswer : List ℕ → List ℕ → Written
-traceAnswer table buffer = let reading = readingOf table in onPass (reading .check) Refused (answerTo (traceText (jobsOf (reading .set))) buffer)
-
--- The buffer after that, as it was where there is a refusal.
-unfoldable pub traceLeft : List ℕ → List ℕ → List ℕ
-traceLeft table buffer = let reading = readingOf table in onPass (reading .check) (λ refusal. buffer) (written (traceText (jobsOf (reading .set))) buffer)
+unfoldable pub leftFor : (List Job → List ℕ) → List ℕ → List ℕ → List ℕ
+leftFor textOf table buffer = let reading = readingOf table in onPass (reading .check) (λ refusal. buffer) (written (textOf (jobsOf (reading .set))) buffer)

@@ -3,7 +3,7 @@ ghost use Rattle.laws.specs.Words.{_≡_, _++_, _≤_};
 ghost use Rattle.decimal.specs.Writing.{written as Decimal·written};
 ghost use Rattle.jobs.specs.Limits.{maxJobs};
 ghost use Rattle.report.specs.Rows.{boundsRows};
-ghost use Rattle.report.specs.Texts.{boundsHeader, answerTo, boundsAnswer, boundsLeft};
+ghost use Rattle.report.specs.Texts.{boundsHeader, boundsText, answerTo, answerFor, leftFor};
 use crate::columns::write_bytes;
 use crate::rows::rows_length;
 use crate::rows::write_rows;
@@ -48,7 +48,7 @@ fn write_bounds(set: JobSet, figures: Figures, out: &mut [u8]) -> Written
 
 // From the text of a table to the text of its bounds: the refusals of reading first, then 9.
 pub fn bounds_text(text: &[u8], out: &mut [u8]) -> Written
-    ensures { λ r. ⌜ (r ≡ boundsAnswer (now (text .entry)) (now (out .entry))) × (now (out .exit) ≡ boundsLeft (now (text .entry)) (now (out .entry))) ⌝ }
+    ensures { λ r. ⌜ (r ≡ answerFor boundsText (now (text .entry)) (now (out .entry))) × (now (out .exit) ≡ leftFor boundsText (now (text .entry)) (now (out .entry))) ⌝ }
 {
     let reading = table::reading::read(text);
     let check = reading.check;

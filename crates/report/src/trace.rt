@@ -5,7 +5,7 @@ ghost use Rattle.jobs.specs.Limits.{maxJobs};
 ghost use Rattle.jobs.specs.Jobs.{jobsOf};
 ghost use Rattle.jobs.specs.Checks.{checkOf};
 ghost use Rattle.report.specs.Private.{entriesText};
-ghost use Rattle.report.specs.Texts.{mostTimes, traceHeader, traceText, answerTo, traceAnswer, traceLeft};
+ghost use Rattle.report.specs.Texts.{mostTimes, traceHeader, traceText, answerTo, answerFor, leftFor};
 use crate::columns::write_bytes;
 use crate::entries::entries_length;
 use crate::entries::write_entries;
@@ -67,7 +67,7 @@ fn trace_set(set: JobSet, out: &mut [u8]) -> Written
 
 // From the text of a table to the text of the run with all most times: the refusals of reading first, then 9.
 pub fn trace_text(text: &[u8], out: &mut [u8]) -> Written
-    ensures { λ r. ⌜ (r ≡ traceAnswer (now (text .entry)) (now (out .entry))) × (now (out .exit) ≡ traceLeft (now (text .entry)) (now (out .entry))) ⌝ }
+    ensures { λ r. ⌜ (r ≡ answerFor traceText (now (text .entry)) (now (out .entry))) × (now (out .exit) ≡ leftFor traceText (now (text .entry)) (now (out .entry))) ⌝ }
 {
     let reading = table::reading::read(text);
     let check = reading.check;

@@ -1,4 +1,4 @@
--- `bounds_text` answers `boundsAnswer` and leaves `boundsLeft`. Assumes nothing.
+-- `bounds_text` answers `answerFor boundsText` and leaves `leftFor boundsText`. Assumes nothing.
 use mathlib.Core.Path.{_≡_}
 use native.Mathlib.Omega.{arith}
 use borrow.Author.Needs.{needs}
@@ -8,7 +8,7 @@ use Rattle.jobs.specs.Checks.{checkOf}
 use Rattle.jobs.proofs.Sets.{length-jobs}
 use Rattle.jobs.proofs.Accepted.{accepted}
 use Rattle.table.proofs.Accepting.{read-check, read-jobs, read-passed}
-use Rattle.report.specs.Texts.{boundsAnswer, boundsLeft}
+use Rattle.report.specs.Texts.{answerFor, leftFor}
 use Rattle.report.proofs.TextAnswers.{figures-text}
 use Rattle.report.proofs.bounds.bounds_text.Statement.{statement}
 use Rattle.report.proofs.bounds.bounds_text.Tie as tie
@@ -24,7 +24,7 @@ enum-known-check : tie.Need-enum-known-check
 enum-known-check c = search needs
 
 returns : tie.Need-returns
-unfolding boundsAnswer boundsLeft
+unfolding answerFor leftFor
 returns c =
     let e = read-check (c .before .before .before .read .ensures) (c .before .check .given .1) in
     (rw e, rw e)
@@ -44,7 +44,7 @@ same-length : tie.Need-same-length
 same-length c = search needs
 
 returns-2 : tie.Need-returns-2
-unfolding boundsAnswer boundsLeft
+unfolding answerFor leftFor
 returns-2 c =
     let text = figures-text (c .before .before .before .before .before .before .before .before .read .result .set) (c .before .before .before .before .figures .result) (c .before .before .before .before .figures .ensures) (accepts (c .before .before .before .before .before .before)) in
     let is = c .before .before .before .before .before .before .before .before .read .ensures in

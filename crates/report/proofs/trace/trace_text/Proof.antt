@@ -1,7 +1,7 @@
--- `trace_text` answers `traceAnswer` and leaves `traceLeft`. Assumes nothing.
+-- `trace_text` answers `answerFor traceText` and leaves `leftFor traceText`. Assumes nothing.
 use borrow.Author.Needs.{needs}
 use Rattle.table.proofs.Accepting.{read-check, read-jobs, read-passed}
-use Rattle.report.specs.Texts.{traceAnswer, traceLeft}
+use Rattle.report.specs.Texts.{answerFor, leftFor}
 use Rattle.report.proofs.trace.trace_text.Statement.{statement}
 use Rattle.report.proofs.trace.trace_text.Tie as tie
 
@@ -12,7 +12,7 @@ enum-known-check : tie.Need-enum-known-check
 enum-known-check c = search needs
 
 returns : tie.Need-returns
-unfolding traceAnswer traceLeft
+unfolding answerFor leftFor
 returns c =
     let e = read-check (c .before .before .before .read .ensures) (c .before .check .given .1) in
     (rw e, rw e)
@@ -27,7 +27,7 @@ same-length : tie.Need-same-length
 same-length c = search needs
 
 returns-2 : tie.Need-returns-2
-unfolding traceAnswer traceLeft
+unfolding answerFor leftFor
 returns-2 c =
     let is = c .before .before .before .before .before .before .read .ensures in
     rw (read-check is (c .before .before .before .before .enum-told .given .1)) (rw (read-jobs is) at (c .before .before .trace-set .ensures))
