@@ -10,7 +10,7 @@ use Rattle.lent.specs.declared.scan.Scan.{Scan}
 use Rattle.machine.specs.States.{complete}
 use Rattle.machine.specs.Pick.{pickUpTo, bestOf, better}
 
--- What a scan of the first n records knows: the pick of a step, and of the last record its figures; a job that is not released counts 0 ticks since then.
+-- What a scan of the first n records knows: the pick of a step and the figures of the last record, with 0 ticks since a release that is still to come.
 unfoldable pub scanOf : List Job → List ℕ → State → ℕ → Scan
 scanOf js times s zero = record { best = bestOf (tableOf js) idle; last = 0; least = 0; done = false; released = false; since = 0 }
 scanOf js times s (suc u) =

@@ -1,7 +1,7 @@
 -- The course of a run: each tick does work or comes before the last release, so that all work is done in the end, and then nothing changes.
 -- Assumes a table of at most the greatest number of jobs, each released by a time R.
 --   Going   what holds after n ticks
-use Prim.Native.Nat.{ℕ, zero, suc, _+_, _-_, _≤_, _<_}
+use Prim.Native.Nat.{ℕ, zero, suc, _+_, _≤_, _<_}
 use mathlib.Core.Path.{_≡_, refl, _∙_}
 use mathlib.Core.Bool.{true, false}
 use mathlib.Core.List.{List}

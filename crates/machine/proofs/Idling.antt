@@ -25,6 +25,12 @@ pub sooner-later : (next release time : ℕ) → time < release → sooner next 
 unfolding sooner
 sooner-later next release time l = rw (lt-ltb time release l)
 
+pub sooner-new : (next release time : ℕ) → time < release → release < next → sooner next release time ≡ release
+sooner-new next release time l earlier = omega (arith, sooner-later next release time l)
+
+pub sooner-old : (next release time : ℕ) → time < release → next ≤ release → sooner next release time ≡ next
+sooner-old next release time l later = omega (arith, sooner-later next release time l)
+
 module _ (release : ℕ → ℕ) (time : ℕ) where
   pub next-none : nextRelease release time 0 ≡ lastTime
   unfolding nextRelease

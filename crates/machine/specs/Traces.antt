@@ -1,5 +1,5 @@
 -- The trace of a run. Document 01, "A trace lists each longest run of one job as chain, job, from, to". Assumes nothing.
-use Rattle.laws.specs.Words.{ℕ, zero, suc, _+_, _*_, Bool, cond, _&&_, List, [], _∷_, _++_, leb, eqb, length, patched}
+use Rattle.laws.specs.Words.{ℕ, zero, suc, _*_, Bool, cond, _&&_, List, [], _∷_, _++_, leb, eqb, length, patched}
 use Rattle.jobs.specs.declared.job.Job.{Job}
 use Rattle.jobs.specs.declared.refusal.Refusal.the-variants.{ShortBuffer}
 use Rattle.jobs.specs.declared.refusal.Check.{Check}

@@ -1,7 +1,7 @@
 -- Sums over the jobs of one chain: a sum over all jobs is the sum over the chains of these.
 --   chainSum   the sum of x over the jobs of chain c among the first n
 -- Assumes nothing.
-use Prim.Native.Nat.{ℕ, zero, suc, _+_, _-_, _≤_, _<_}
+use Prim.Native.Nat.{ℕ, zero, suc, _+_, _≤_, _<_}
 use mathlib.Core.Path.{_≡_, refl, sym, ap}
 use mathlib.Core.Logic.{_≢_}
 use mathlib.Core.Bool.{cond}

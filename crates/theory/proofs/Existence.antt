@@ -1,6 +1,6 @@
 -- A legal run can be carried on by one entry, so there is one of each length: the claims about all runs are not claims about none. Assumes nothing.
 --   Pick   what may run at n, seen from the first m jobs
-use Prim.Native.Nat.{ℕ, zero, suc, _+_, _≤_, _<_}
+use Prim.Native.Nat.{ℕ, zero, suc, _≤_, _<_}
 use mathlib.Core.Path.{_≡_, refl, sym, _∙_}
 use mathlib.Core.List.{List, [], _∷_, _++_}
 use native.Mathlib.Omega.{arith}

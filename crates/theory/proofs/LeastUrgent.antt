@@ -20,8 +20,8 @@ use Rattle.theory.proofs.Overlaps.{overlap-carry}
 use Rattle.theory.proofs.Monotone.{pairs-mono}
 use Rattle.theory.proofs.Least.{itr-order}
 use Rattle.theory.proofs.Rising.{sum-whole}
-use Rattle.theory.proofs.Parts.{by-part, place-lt, chain-down, ert-same, same-pair}
-use Rattle.theory.proofs.PartBounds.{pulled, others, part-terms, chains-below, counted-part, at-table, at-part, ert-part, cja-part, start-same, after-part}
+use Rattle.theory.proofs.Parts.{by-part, place-lt, chain-down, ert-same}
+use Rattle.theory.proofs.PartBounds.{pulled, others, part-terms, chains-below, pair-sums, at-table, at-part, ert-part, cja-part, start-same, after-part}
 
 module _ {part t : Table} {place number : ℕ → ℕ} (h : Part part t place number) (o : Ordered t) (less : LessUrgent part t place) where
   interference-whole : (own target : ℕ) (w : ℕ → ℕ) → 0 < part .count → ((u : ℕ) → u < t .count → Left part place u → t .urgency u < target)
@@ -49,17 +49,13 @@ module _ {part t : Table} {place number : ℕ → ℕ} (h : Part part t place nu
 
   pair-whole : (keep : ℕ → ℕ → ℕ → Bool) (k j : ℕ) → k ≤ j → j < part .count → part .chain k ≡ part .chain j
       → pairBound t keep (place k) (place j) ≤ pairBound part (pulled place keep) k j
-  unfolding pairBound
   pair-whole keep k j kj jl e =
-      let same = same-pair h o k j kj jl e in
-      rw (h .chain j jl, ← same .lows, ← same .demands)
-      (omega (
+      omega (
         arith,
-        h .latest k (omega arith),
-        counted-part h o keep k j (part .chain j) (lowest part k j),
+        pair-sums h o keep k j kj jl e,
         interference-whole (part .chain j) (lowest part k j) (counted t keep (place k) (place j)) (omega arith) (λ u ul left.
             lowest-above part k j (t .urgency u) kj (λ i il. less u i ul left (omega arith))),
-      ))
+      )
 
   pairs-whole : (keep : ℕ → ℕ → ℕ → Bool) (j : ℕ) → j < part .count
       → largestPair t keep (place j) (suc (place j)) ≤ largestPair part (pulled place keep) j (suc j)

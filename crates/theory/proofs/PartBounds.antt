@@ -2,7 +2,7 @@
 -- chains come in order.
 --   pulled   a choice of jobs of the table, seen from the part
 --   others   what a chain adds to the interference
-use Prim.Native.Nat.{ℕ, zero, suc, _≤_, _<_}
+use Prim.Native.Nat.{ℕ, zero, suc, _+_, _≤_, _<_}
 use mathlib.Core.Path.{_≡_, sym, ap, _∙_}
 use mathlib.Core.Bool.{Bool, cond}
 use native.Mathlib.Omega.{arith}
@@ -74,7 +74,7 @@ module _ {part t : Table} {place number : ℕ → ℕ} (h : Part part t place nu
       )
 
   -- ---- pairs
-  pub counted-part : (keep : ℕ → ℕ → ℕ → Bool) (k j own target : ℕ)
+  counted-part : (keep : ℕ → ℕ → ℕ → Bool) (k j own target : ℕ)
       → interference part own target (counted part (pulled place keep) k j) ≡ interference part own target (λ i. counted t keep (place k) (place j) (place i))
   unfolding counted
   counted-part keep k j own target =
@@ -86,18 +86,20 @@ module _ {part t : Table} {place number : ℕ → ℕ} (h : Part part t place nu
       (λ i. counted t keep (place k) (place j) (place i))
       (λ u ul ne. rw (h .most u ul))
 
-  pair-part : (keep : ℕ → ℕ → ℕ → Bool) (k j : ℕ) → k ≤ j → j < part .count → part .chain k ≡ part .chain j
-      → pairBound part (pulled place keep) k j ≤ pairBound t keep (place k) (place j)
+  -- the sums of a pair differ as the interference does
+  pub pair-sums : (keep : ℕ → ℕ → ℕ → Bool) (k j : ℕ) → k ≤ j → j < part .count → part .chain k ≡ part .chain j
+      → pairBound part (pulled place keep) k j + interference t (number (part .chain j)) (lowest part k j) (counted t keep (place k) (place j))
+      ≡ pairBound t keep (place k) (place j) + interference part (part .chain j) (lowest part k j) (λ i. counted t keep (place k) (place j) (place i))
   unfolding pairBound
-  pair-part keep k j kj jl e =
+  pair-sums keep k j kj jl e =
       let same = same-pair h o k j kj jl e in
       rw (h .chain j jl, ← same .lows, ← same .demands)
-      (omega (
-        arith,
-        h .latest k (omega arith),
-        counted-part keep k j (part .chain j) (lowest part k j),
-        interference-part (part .chain j) (lowest part k j) (counted t keep (place k) (place j)) (omega arith),
-      ))
+      (omega (arith, h .latest k (omega arith), counted-part keep k j (part .chain j) (lowest part k j)))
+
+  pair-part : (keep : ℕ → ℕ → ℕ → Bool) (k j : ℕ) → k ≤ j → j < part .count → part .chain k ≡ part .chain j
+      → pairBound part (pulled place keep) k j ≤ pairBound t keep (place k) (place j)
+  pair-part keep k j kj jl e =
+      omega (arith, pair-sums keep k j kj jl e, interference-part (part .chain j) (lowest part k j) (counted t keep (place k) (place j)) (omega arith))
 
   pairs-part : (keep : ℕ → ℕ → ℕ → Bool) (j : ℕ) → j < part .count
       → largestPair part (pulled place keep) j (suc j) ≤ largestPair t keep (place j) (suc (place j))

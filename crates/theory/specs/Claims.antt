@@ -27,13 +27,13 @@ abbrev pub Repeats : Table → ℕ → Type 0
 Repeats t zero = ⊥
 Repeats t (suc n) = after t (suc n) ≡ after t n
 
--- The bounds are those of the last round; the last round changed no bound, and no round before it changed none.
+-- The bounds are those of the last round, which changed no bound, while every round before it changed some.
 pub record Settled (t : Table) (answer : Answer) : Type 0 where
   pub made : answer .bounds ≡ after t (answer .rounds)
   pub last : Repeats t (answer .rounds)
   pub first : (n : ℕ) → n < answer .rounds → Repeats t n → ⊥
 
--- `demand-3`: the bounds hold, they are in order, and the rounds end as they should, for all running times and releases in range and any pick among equals.
+-- `demand-3`: for all running times and releases in range and any pick among equals the bounds hold; they are in order, and the rounds end as they should.
 pub record Demand3 (t : Table) : Type 0 where
   pub by-ert : Holds t (ert t)
   pub by-cja : Holds t (cja t)
@@ -43,7 +43,7 @@ pub record Demand3 (t : Table) : Type 0 where
   pub rounds : itr t .rounds ≤ roundLimit t
   pub settled : Settled t (itr t)
 
--- `rounds-determined`: no other answer has settled, so that the count less one, or any other number, is ruled out.
+-- `rounds-determined`: no other answer is settled, so that the count less one, or any other number, is ruled out.
 abbrev pub Determined : Table → Type 0
 Determined t = (answer : Answer) → Settled t answer → answer ≡ itr t
 

@@ -3,7 +3,7 @@
 use Rattle.laws.specs.Words.{ℕ, zero, suc, _+_, max, cond, leb, eqb, sumBelow, greatest}
 use Rattle.theory.specs.Table.{Table}
 
--- The sum over the block, in document 01's sense, of chain c that reaches the last of the first n places, 0 where none does.
+-- The sum over chain c's block at the end of the first n places, 0 where there is none: consecutive jobs, each at least as urgent as the target.
 unfoldable pub openBlock : Table → ℕ → ℕ → (ℕ → ℕ) → ℕ → ℕ
 openBlock t c target weight zero = 0
 openBlock t c target weight (suc u) =

@@ -3,7 +3,7 @@ use Rattle.laws.specs.Words.{ℕ, zero, suc, _+_, _*_, _-_, Bool, true, false, 
 use Rattle.theory.specs.Table.{Table}
 use Rattle.theory.specs.Bounds.{boundAt, ertRule, cjaWith}
 
--- ITR starts from the ERT rule with interference 0.
+-- The start of ITR: the ERT rule with interference 0.
 unfoldable pub itrStart : Table → List ℕ
 itrStart t = tabulate 0 (t .count) (ertRule t (λ i. 0))
 

@@ -40,7 +40,7 @@ pub record Ready (t : Table) (release : ℕ → ℕ) (times : List ℕ) (run : L
   pub unfinished : Complete times run u n → ⊥
   pub predecessor : PredecessorComplete t times run u n
 
--- An entry is a job ready at its tick, with no job of higher priority ready, or it is idle and no job is ready.
+-- An entry is legal where it is a job ready at its tick, with no job of higher priority ready, or idle with no job ready.
 abbrev pub LegalEntry : Table → (ℕ → ℕ) → List ℕ → List Entry → ℕ → Entry → Type 0
 LegalEntry t release times run n idle = (v : ℕ) → v < t .count → Ready t release times run v n → ⊥
 LegalEntry t release times run n (runs u) =
@@ -48,7 +48,7 @@ LegalEntry t release times run n (runs u) =
     × Ready t release times run u n
     × ((v : ℕ) → v < t .count → Ready t release times run v n → t .urgency v ≤ t .urgency u)
 
--- Each entry of the run is such.
+-- Each entry of the run is legal.
 abbrev pub Legal : Table → (ℕ → ℕ) → List ℕ → List Entry → Type 0
 Legal t release times run = (n : ℕ) → n < length run → LegalEntry t release times run n (entryAt run n)
 
