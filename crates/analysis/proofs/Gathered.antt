@@ -11,7 +11,7 @@ use lib.ListN.{length, getD, set, replicate, length-set, length-replicate}
 use Rattle.laws.proofs.Filling.{filled-none, filled-next, filled-at}
 use Rattle.jobs.specs.declared.job.Job.{Job}
 use Rattle.jobs.specs.Limits.{maxJobs}
-use Rattle.jobs.specs.Jobs.{jobAt}
+use Rattle.jobs.specs.Jobs.{jobAt, urgencyOf}
 use Rattle.theory.specs.Table.{Table, effectiveEarliest, effectiveLatest, given, tableOf}
 use Rattle.theory.proofs.WellFormed.{Ordered, chain-le}
 use Rattle.analysis.specs.declared.columns.Columns.{Columns}
@@ -44,12 +44,12 @@ noColumns =
       latest = replicate maxJobs 0;
     }
 
-abbrev pub stored : Columns → ℕ → Job → ℕ → ℕ → ℕ → Columns
-stored columns i job earliest latest first =
+abbrev pub stored : Columns → ℕ → Job → ℕ → ℕ → ℕ → ℕ → Columns
+stored columns i job urgency earliest latest first =
     record {
       ends = set (columns .ends) first (i + 1);
       chain = set (columns .chain) i (job .chain);
-      urgency = set (columns .urgency) i (job .priority);
+      urgency = set (columns .urgency) i urgency;
       most = set (columns .most) i (job .most);
       earliest = set (columns .earliest) i earliest;
       latest = set (columns .latest) i latest;
@@ -84,17 +84,17 @@ module _ (js : List Job) where
       }
 
   module _ (few : length js ≤ maxJobs) (i : ℕ) (l : i < length js) (job : Job) (here : job ≡ jobAt js i) where
-    next-gathered : (columns : Columns) (earliest latest first : ℕ) → columns ≡ columnsOf t i (columns .ends) → earliest ≡ t .earliest i → latest ≡ t .latest i
-        → stored columns i job earliest latest first ≡ columnsOf t (i + 1) (set (columns .ends) first (i + 1))
+    next-gathered : (columns : Columns) (urgency earliest latest first : ℕ) → columns ≡ columnsOf t i (columns .ends) → urgency ≡ urgencyOf job → earliest ≡ t .earliest i → latest ≡ t .latest i
+        → stored columns i job urgency earliest latest first ≡ columnsOf t (i + 1) (set (columns .ends) first (i + 1))
     unfolding columnsOf
-    next-gathered columns earliest latest first e ee el =
+    next-gathered columns urgency earliest latest first e eu ee el =
         let room : i < maxJobs = omega arith in
         let chain = filled-next maxJobs 0 (t .chain) i (columns .chain) (job .chain) room (ap (λ (q : Columns). q .chain) e) (ap (λ (j : Job). j .chain) here) in
-        let urgency = filled-next maxJobs 0 (t .urgency) i (columns .urgency) (job .priority) room (ap (λ (q : Columns). q .urgency) e) (ap (λ (j : Job). j .priority) here) in
+        let urgent = filled-next maxJobs 0 (t .urgency) i (columns .urgency) urgency room (ap (λ (q : Columns). q .urgency) e) (eu ∙ ap urgencyOf here) in
         let most = filled-next maxJobs 0 (t .most) i (columns .most) (job .most) room (ap (λ (q : Columns). q .most) e) (ap (λ (j : Job). j .most) here) in
         let early = filled-next maxJobs 0 (t .earliest) i (columns .earliest) earliest room (ap (λ (q : Columns). q .earliest) e) ee in
         let late = filled-next maxJobs 0 (t .latest) i (columns .latest) latest room (ap (λ (q : Columns). q .latest) e) el in
-        λ x. record { ends = set (columns .ends) first (i + 1); chain = chain x; urgency = urgency x; most = most x; earliest = early x; latest = late x }
+        λ x. record { ends = set (columns .ends) first (i + 1); chain = chain x; urgency = urgent x; most = most x; earliest = early x; latest = late x }
 
     module _ {last ready first : ℕ} {columns : Columns} (h : Gathered js i last ready first columns) (earliest : ℕ) (e : earliest ≡ notBefore last (job .chain) (job .release) ready) where
       pub gathered-earliest : earliest ≡ t .earliest i
@@ -104,12 +104,12 @@ module _ (js : List Job) where
       unfolding effectiveLatest
       latest-is latest q = omega (arith, gathered-earliest, ap (λ (j : Job). j .release) here)
 
-      pub gathered-next : Ordered t → (latest : ℕ) → latest ≡ max (job .release) earliest → (next : ℕ) → next ≡ cond (eqb last (job .chain)) first i
-          → Gathered js (i + 1) (job .chain) (earliest + job .least) next (stored columns i job earliest latest next)
-      gathered-next o latest q next n =
+      pub gathered-next : Ordered t → (urgency : ℕ) → urgency ≡ urgencyOf job → (latest : ℕ) → latest ≡ max (job .release) earliest → (next : ℕ) → next ≡ cond (eqb last (job .chain)) first i
+          → Gathered js (i + 1) (job .chain) (earliest + job .least) next (stored columns i job urgency earliest latest next)
+      gathered-next o urgency p latest q next n =
           record {
             inside = omega arith;
-            are = next-gathered columns earliest latest next (h .are) gathered-earliest (latest-is latest q);
+            are = next-gathered columns urgency earliest latest next (h .are) p gathered-earliest (latest-is latest q);
             room = length-set (columns .ends) next (i + 1) ∙ h .room;
             heads = heads-next (t .chain) (omega (arith, h .room)) (h .heads) (λ v w vw wi. chain-le t o v w vw (omega arith)) next (n ∙ rw (h .last-is, here));
             last-is = ap (λ (j : Job). j .chain) here ∙ sym (prior-next (t .chain) i);

@@ -7,6 +7,7 @@ ghost use Rattle.theory.specs.Table.{tableOf};
 ghost use Rattle.analysis.specs.Private.{columnsOf, Ended};
 use crate::number::larger;
 use crate::predecessor::not_before;
+use jobs::job::Job;
 use jobs::set::JobSet;
 
 // Places beyond the jobs hold 0. Where a chain has its first job, `ends` has the place after its last one.
@@ -53,7 +54,7 @@ pub(crate) fn columns_of(set: JobSet) -> Columns
         let job = set.jobs[i];
         let earliest = not_before(last, job.chain, job.release, ready);
         columns.chain[i] = job.chain;
-        columns.urgency[i] = job.priority;
+        columns.urgency[i] = Job::urgency(job);
         columns.most[i] = job.most;
         columns.earliest[i] = earliest;
         columns.latest[i] = larger(job.release, earliest);

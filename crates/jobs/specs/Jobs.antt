@@ -12,6 +12,10 @@ noJob = record { chain = 0; job = 0; release = 0; priority = 0; least = 0; most 
 abbrev pub jobAt : List Job → ℕ → Job
 jobAt js i = getD js i noJob
 
+-- How urgent a job is: its priority; a greater number is more urgent.
+unfoldable pub urgencyOf : Job → ℕ
+urgencyOf j = j .priority
+
 -- A set's records, as many as it counts; one handed by value may count more than it has places, and those hold no job.
 unfoldable pub jobsOf : JobSet → List Job
 jobsOf set = tabulate 0 (set .count) (λ i. getD (set .jobs) i noJob)

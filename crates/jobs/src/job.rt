@@ -1,6 +1,6 @@
 // A job: a record of the table.
 ghost use Rattle.laws.specs.Words.{_≡_};
-ghost use Rattle.jobs.specs.Jobs.{noJob};
+ghost use Rattle.jobs.specs.Jobs.{noJob, urgencyOf};
 
 pub struct Job {
     pub chain: u64,
@@ -34,5 +34,12 @@ impl Job {
             most: 0,
             deadline: 0,
         }
+    }
+
+    // How urgent a job is; a greater number is more urgent.
+    pub fn urgency(job: Job) -> u64
+        ensures { λ r. ⌜ r ≡ urgencyOf job ⌝ }
+    {
+        job.priority
     }
 }

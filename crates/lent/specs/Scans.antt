@@ -2,6 +2,7 @@
 -- From `follows` on, definitions that only the contracts of private functions use. Assumes nothing.
 use Rattle.laws.specs.Words.{ℕ, zero, suc, _-_, min, Bool, true, false, cond, not, _&&_, List, leb, ltb, eqb}
 use Rattle.jobs.specs.declared.job.Job.{Job}
+use Rattle.jobs.specs.Jobs.{urgencyOf}
 use Rattle.theory.specs.Table.{tableOf}
 use Rattle.theory.specs.Runs.{idle}
 use Rattle.machine.specs.declared.state.State.{State}
@@ -45,7 +46,7 @@ readyBy scan j u times s =
 
 -- The best after it.
 unfoldable pub bestBy : Scan → Job → ℕ → List ℕ → State → Best
-bestBy scan j u times s = cond (readyBy scan j u times s) (better (scan .best) u (j .priority) (j .chain)) (scan .best)
+bestBy scan j u times s = cond (readyBy scan j u times s) (better (scan .best) u (urgencyOf j) (j .chain)) (scan .best)
 
 -- The scan after it.
 unfoldable pub lookedAt : Scan → Job → ℕ → List ℕ → State → Scan

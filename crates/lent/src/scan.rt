@@ -80,7 +80,7 @@ fn best_after(scan: Scan, job: Job, at: usize, times: &[u64], state: State) -> B
     ensures { λ r. ⌜ r ≡ bestBy scan job at (now (times .entry)) state ⌝ }
 {
     if is_ready_record(scan, job, at, times, state) {
-        return better_of(scan.best, at, job.priority, job.chain);
+        return better_of(scan.best, at, Job::urgency(job), job.chain);
     }
     scan.best
 }
@@ -112,7 +112,7 @@ pub fn most_urgent(jobs: &[Job], times: &[u64], state: State) -> Scan
         best: Best {
             found: false,
             at: 0,
-            priority: 0,
+            urgency: 0,
             chain: 0,
         },
         last: 0,

@@ -11,7 +11,7 @@ use borrow.Author.Tests.{ne-eqb}
 use Rattle.laws.proofs.Tests.{by-last}
 use Rattle.jobs.specs.declared.job.Job.{Job}
 use Rattle.jobs.specs.Limits.{maxJobs, maxRelease, maxTime}
-use Rattle.jobs.specs.Jobs.{noJob, jobAt}
+use Rattle.jobs.specs.Jobs.{noJob, jobAt, urgencyOf}
 use Rattle.jobs.proofs.Accepted.{Accepted}
 use Rattle.theory.specs.Table.{joined, effectiveEarliest, tableOf}
 use Rattle.theory.proofs.Releases.{earliest-latest}
@@ -42,11 +42,11 @@ pub record Filled (js : List Job) (n : ℕ) (last : Job) (before : ℕ) (columns
   pub before-is : before ≡ beforeAt js n
   pub shown : Shown (tableOf js) columns n
   pub long-chain : length (columns .chain) ≡ maxJobs
-  pub long-priority : length (columns .priority) ≡ maxJobs
+  pub long-urgency : length (columns .urgency) ≡ maxJobs
   pub long-release : length (columns .release) ≡ maxJobs
 
 abbrev pub columnsOf : List ℕ → List ℕ → List ℕ → Columns
-columnsOf chain priority release = record { chain = chain; priority = priority; release = release }
+columnsOf chain urgency release = record { chain = chain; urgency = urgency; release = release }
 
 module _ (js : List Job) (ok : Accepted js) where
   release-limit : (n : ℕ) → n ≤ length js → beforeAt js n + lastAt js n .least ≤ maxRelease + maxJobs * maxTime + maxTime
@@ -58,7 +58,7 @@ module _ (js : List Job) (ok : Accepted js) where
   carried-is zero l = rw (ne-eqb 0 (jobAt js 0 .chain) (λ e. omega (arith, ok .first .0)))
   carried-is (suc k) l = refl
 
-  pub filled-start : (columns : Columns) → length (columns .chain) ≡ maxJobs → length (columns .priority) ≡ maxJobs → length (columns .release) ≡ maxJobs
+  pub filled-start : (columns : Columns) → length (columns .chain) ≡ maxJobs → length (columns .urgency) ≡ maxJobs → length (columns .release) ≡ maxJobs
       → (last : Job) → last ≡ noJob → Filled js 0 last 0 columns
   filled-start columns a b c last e =
       record {
@@ -67,7 +67,7 @@ module _ (js : List Job) (ok : Accepted js) where
         before-is = refl;
         shown = record { chain = λ i l. absurd (omega arith); urgency = λ i l. absurd (omega arith); release = λ i l. absurd (omega arith) };
         long-chain = a;
-        long-priority = b;
+        long-urgency = b;
         long-release = c;
       }
 
@@ -75,9 +75,9 @@ module _ (js : List Job) (ok : Accepted js) where
     pub filled-fits : before + last .least < 2 ^ 64
     filled-fits = rw (f .before-is, f .last-is) (omega (arith, release-limit n (f .inside)))
 
-    pub filled-next : n < length js → (job : Job) → job ≡ jobAt js n → (r : ℕ) → r ≡ carried last before job
-        → Filled js (n + 1) job r (columnsOf (set (columns .chain) n (job .chain)) (set (columns .priority) n (job .priority)) (set (columns .release) n r))
-    filled-next l job e r q =
+    pub filled-next : n < length js → (job : Job) → job ≡ jobAt js n → (r : ℕ) → r ≡ carried last before job → (p : ℕ) → p ≡ urgencyOf job
+        → Filled js (n + 1) job r (columnsOf (set (columns .chain) n (job .chain)) (set (columns .urgency) n p) (set (columns .release) n r))
+    filled-next l job e r q p w =
         let room : n < maxJobs = omega (arith, ok .few) in
         let effective : r ≡ tableOf js .earliest n = q ∙ rw (f .before-is, f .last-is, e) (carried-is n l) in
         record {
@@ -87,11 +87,11 @@ module _ (js : List Job) (ok : Accepted js) where
           shown =
               record {
                 chain = column-next (tableOf js .chain) (columns .chain) n (job .chain) (omega (arith, f .long-chain)) (ap (λ (j : Job). j .chain) e) (f .shown .chain);
-                urgency = column-next (tableOf js .urgency) (columns .priority) n (job .priority) (omega (arith, f .long-priority)) (ap (λ (j : Job). j .priority) e) (f .shown .urgency);
+                urgency = column-next (tableOf js .urgency) (columns .urgency) n p (omega (arith, f .long-urgency)) (w ∙ ap urgencyOf e) (f .shown .urgency);
                 release = column-next (tableOf js .earliest) (columns .release) n r (omega (arith, f .long-release)) effective (f .shown .release);
               };
           long-chain = length-set (columns .chain) n (job .chain) ∙ f .long-chain;
-          long-priority = length-set (columns .priority) n (job .priority) ∙ f .long-priority;
+          long-urgency = length-set (columns .urgency) n p ∙ f .long-urgency;
           long-release = length-set (columns .release) n r ∙ f .long-release;
         }
 

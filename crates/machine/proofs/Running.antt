@@ -240,7 +240,7 @@ pub record Turn (set : JobSet) (columns : Columns) (times work : List ℕ) (left
   pub prepared : Prepared (jobsOf set) columns times
   pub reached : Reached (jobsOf set) times work left time
   pub more : 0 < left
-  pub scanned : best ≡ bestOf (seen (columns .chain) (columns .priority) (columns .release)) (pickUpTo (seen (columns .chain) (columns .priority) (columns .release)) times (stateOf time work) (set .count))
+  pub scanned : best ≡ bestOf (seen (columns .chain) (columns .urgency) (columns .release)) (pickUpTo (seen (columns .chain) (columns .urgency) (columns .release)) times (stateOf time work) (set .count))
 
 module _ {set : JobSet} {columns : Columns} {times work : List ℕ} {left time : ℕ} {best : Best} (turn : Turn set columns times work left time best) where
   abbrev js : List Job

@@ -43,12 +43,12 @@ pub best-none : (t : Table) (e : Entry) (best : Best) → best ≡ bestOf t e �
 best-none t idle best q h = refl
 best-none t (runs u) best q h = absurd (both-ways (ap (λ (b : Best). b .found) q) h)
 
-pub shown-alike : {t : Table} {columns : Columns} {n : ℕ} → Shown t columns n → Alike (seen (columns .chain) (columns .priority) (columns .release)) t n
+pub shown-alike : {t : Table} {columns : Columns} {n : ℕ} → Shown t columns n → Alike (seen (columns .chain) (columns .urgency) (columns .release)) t n
 shown-alike h = record { chain = h .chain; urgency = h .urgency; release = h .release }
 
 module _ {t : Table} {columns : Columns} {n : ℕ} (h : Shown t columns n) (whole : t .count ≡ n) (times : List ℕ) (s : State) where
   abbrev columnTable : Table
-  columnTable = seen (columns .chain) (columns .priority) (columns .release)
+  columnTable = seen (columns .chain) (columns .urgency) (columns .release)
 
   scan-pick : pickUpTo columnTable times s n ≡ pick t times s
   unfolding pick
@@ -106,7 +106,7 @@ module _ {t : Table} {columns : Columns} {n : ℕ} (h : Shown t columns n) (whol
   unfolding possible
   possible-alike u l =
       rw (
-        predecessor-bare (columns .chain) (columns .priority) (columns .release) times (s .work) u,
+        predecessor-bare (columns .chain) (columns .urgency) (columns .release) times (s .work) u,
         predecessor-alike (shown-alike h) times (s .work) u l,
         h .release u l,
       )
@@ -157,7 +157,7 @@ module _ (set : JobSet) (columns : Columns) (times : List ℕ) (p : Prepared (jo
   pub prepared-times : set .count ≤ length times
   prepared-times = omega (arith, length-jobs set, times-each (jobsOf set) times (p .checked))
 
-  module _ (s : State) (best : Best) (e : best ≡ bestOf (seen (columns .chain) (columns .priority) (columns .release)) (pickUpTo (seen (columns .chain) (columns .priority) (columns .release)) times s (set .count))) where
+  module _ (s : State) (best : Best) (e : best ≡ bestOf (seen (columns .chain) (columns .urgency) (columns .release)) (pickUpTo (seen (columns .chain) (columns .urgency) (columns .release)) times s (set .count))) where
     pub advance-none : best .found ≡ false → pick (tableOf (jobsOf set)) times s ≡ idle
     advance-none f = scan-none prepared-shown (length-jobs set) times s best e f
 

@@ -32,11 +32,11 @@ pick t times s = pickUpTo t times s (t .count)
 
 -- A pick as a scan over the jobs keeps it: the place, urgency and chain of what runs.
 abbrev pub bestOf : Table → Entry → Best
-bestOf t idle = record { found = false; at = 0; priority = 0; chain = 0 }
-bestOf t (runs u) = record { found = true; at = u; priority = t .urgency u; chain = t .chain u }
+bestOf t idle = record { found = false; at = 0; urgency = 0; chain = 0 }
+bestOf t (runs u) = record { found = true; at = u; urgency = t .urgency u; chain = t .chain u }
 
 -- The best so far after a ready job of urgency p and chain c at u.
 unfoldable pub better : Best → ℕ → ℕ → ℕ → Best
 better best u p c =
-    let new : Best = record { found = true; at = u; priority = p; chain = c } in
-    cond (best .found) (cond (outranks p c (best .priority) (best .chain)) new best) new
+    let new : Best = record { found = true; at = u; urgency = p; chain = c } in
+    cond (best .found) (cond (outranks p c (best .urgency) (best .chain)) new best) new

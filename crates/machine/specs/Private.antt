@@ -19,11 +19,11 @@ stateOf time work = record { time = time; work = work }
 
 -- The table that columns of figures show; the pick reads no other figures.
 abbrev pub seen : List ℕ → List ℕ → List ℕ → Table
-seen chain priority release =
+seen chain urgency release =
     record {
       count = length chain;
       chain = λ i. getD chain i 0;
-      urgency = λ i. getD priority i 0;
+      urgency = λ i. getD urgency i 0;
       least = λ i. 0;
       most = λ i. 0;
       earliest = λ i. getD release i 0;
@@ -37,7 +37,7 @@ considered t times s best u = cond (ready t times s u) (better best u (t .urgenc
 -- The columns hold the figures of a table's first n jobs.
 pub record Shown (t : Table) (columns : Columns) (n : ℕ) : Type 0 where
   pub chain : (i : ℕ) → i < n → getD (columns .chain) i 0 ≡ t .chain i
-  pub urgency : (i : ℕ) → i < n → getD (columns .priority) i 0 ≡ t .urgency i
+  pub urgency : (i : ℕ) → i < n → getD (columns .urgency) i 0 ≡ t .urgency i
   pub release : (i : ℕ) → i < n → getD (columns .release) i 0 ≡ t .earliest i
 
 -- The effective release of a job, from the job before it, `last`, and that one's effective release.

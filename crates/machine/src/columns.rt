@@ -9,7 +9,7 @@ use jobs::set::JobSet;
 
 pub struct Columns {
     pub chain: [u64; JobSet::MAX_JOBS],
-    pub priority: [u64; JobSet::MAX_JOBS],
+    pub urgency: [u64; JobSet::MAX_JOBS],
     pub release: [u64; JobSet::MAX_JOBS],
 }
 
@@ -33,7 +33,7 @@ pub(crate) fn columns_of(set: JobSet) -> Columns
     ensures { λ r. ⌜ Shown (tableOf (jobsOf set)) r (set .count) ⌝ }
 {
     let mut chain = [0u64; JobSet::MAX_JOBS];
-    let mut priority = [0u64; JobSet::MAX_JOBS];
+    let mut urgency = [0u64; JobSet::MAX_JOBS];
     let mut release = [0u64; JobSet::MAX_JOBS];
     let count = set.count;
     let mut last = Job::none();
@@ -43,14 +43,14 @@ pub(crate) fn columns_of(set: JobSet) -> Columns
         let job = set.jobs[n];
         before = release_after(last, before, job);
         chain[n] = job.chain;
-        priority[n] = job.priority;
+        urgency[n] = Job::urgency(job);
         release[n] = before;
         last = job;
         n += 1;
     }
     Columns {
         chain,
-        priority,
+        urgency,
         release,
     }
 }

@@ -10,36 +10,36 @@ use jobs::set::JobSet;
 pub struct Best {
     pub found: bool,
     pub at: usize,
-    pub priority: u64,
+    pub urgency: u64,
     pub chain: u64,
 }
 
-// Whether a job of this priority and chain goes before the best so far.
-fn is_outranking(priority: u64, chain: u64, best: Best) -> bool
-    ensures { λ r. ⌜ r ≡ outranks priority chain (best .priority) (best .chain) ⌝ }
+// Whether a job of this urgency and chain goes before the best so far.
+fn is_outranking(urgency: u64, chain: u64, best: Best) -> bool
+    ensures { λ r. ⌜ r ≡ outranks urgency chain (best .urgency) (best .chain) ⌝ }
 {
-    if best.priority < priority {
+    if best.urgency < urgency {
         return true;
     }
-    if priority == best.priority {
+    if urgency == best.urgency {
         return chain < best.chain;
     }
     false
 }
 
 // A ready job takes the place of the best so far where it goes before it.
-pub fn better_of(best: Best, at: usize, priority: u64, chain: u64) -> Best
-    ensures { λ r. ⌜ r ≡ better best at priority chain ⌝ }
+pub fn better_of(best: Best, at: usize, urgency: u64, chain: u64) -> Best
+    ensures { λ r. ⌜ r ≡ better best at urgency chain ⌝ }
 {
     if best.found {
-        if !is_outranking(priority, chain, best) {
+        if !is_outranking(urgency, chain, best) {
             return best;
         }
     }
     Best {
         found: true,
         at,
-        priority,
+        urgency,
         chain,
     }
 }
@@ -49,57 +49,57 @@ fn consider<'a, 'b>(
     best: Best,
     at: usize,
     chain: &'a [u64; JobSet::MAX_JOBS],
-    priority: &'a [u64; JobSet::MAX_JOBS],
+    urgency: &'a [u64; JobSet::MAX_JOBS],
     release: &'a [u64; JobSet::MAX_JOBS],
     times: &'a [u64],
     work: &'b [u64; JobSet::MAX_JOBS],
     time: u64,
 ) -> Best
     requires { ⌜ (at < maxJobs) × (at < length (now times)) ⌝ }
-    ensures { λ r. ⌜ r ≡ considered (seen (now (chain .entry)) (now (priority .entry)) (now (release .entry))) (now (times .entry)) (stateOf time (now (work .entry))) best at ⌝ }
+    ensures { λ r. ⌜ r ≡ considered (seen (now (chain .entry)) (now (urgency .entry)) (now (release .entry))) (now (times .entry)) (stateOf time (now (work .entry))) best at ⌝ }
 {
     if !is_ready(at, chain, release, times, work, time) {
         return best;
     }
-    better_of(best, at, priority[at], chain[at])
+    better_of(best, at, urgency[at], chain[at])
 }
 
 // The pick of the first count jobs; its parts are carried one by one, which is much faster than to copy the whole.
 pub(crate) fn best_of<'a, 'b>(
     count: usize,
     chain: &'a [u64; JobSet::MAX_JOBS],
-    priority: &'a [u64; JobSet::MAX_JOBS],
+    urgency: &'a [u64; JobSet::MAX_JOBS],
     release: &'a [u64; JobSet::MAX_JOBS],
     times: &'a [u64],
     work: &'b [u64; JobSet::MAX_JOBS],
     time: u64,
 ) -> Best
     requires { ⌜ (count ≤ maxJobs) × (count ≤ length (now times)) ⌝ }
-    ensures { λ r. ⌜ r ≡ bestOf (seen (now (chain .entry)) (now (priority .entry)) (now (release .entry))) (pickUpTo (seen (now (chain .entry)) (now (priority .entry)) (now (release .entry))) (now (times .entry)) (stateOf time (now (work .entry))) count) ⌝ }
+    ensures { λ r. ⌜ r ≡ bestOf (seen (now (chain .entry)) (now (urgency .entry)) (now (release .entry))) (pickUpTo (seen (now (chain .entry)) (now (urgency .entry)) (now (release .entry))) (now (times .entry)) (stateOf time (now (work .entry))) count) ⌝ }
 {
     let mut found = false;
     let mut at: usize = 0;
-    let mut best_priority: u64 = 0;
+    let mut best_urgency: u64 = 0;
     let mut best_chain: u64 = 0;
     let mut n: usize = 0;
     while n < count {
         let best = Best {
             found,
             at,
-            priority: best_priority,
+            urgency: best_urgency,
             chain: best_chain,
         };
-        let next = consider(best, n, chain, priority, release, times, work, time);
+        let next = consider(best, n, chain, urgency, release, times, work, time);
         found = next.found;
         at = next.at;
-        best_priority = next.priority;
+        best_urgency = next.urgency;
         best_chain = next.chain;
         n += 1;
     }
     Best {
         found,
         at,
-        priority: best_priority,
+        urgency: best_urgency,
         chain: best_chain,
     }
 }

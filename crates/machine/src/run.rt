@@ -25,14 +25,14 @@ fn run_through(set: JobSet, times: &[u64]) -> Completed
 {
     let columns = columns_of(set);
     let chain = columns.chain;
-    let priority = columns.priority;
+    let urgency = columns.urgency;
     let release = columns.release;
     let mut work = [0u64; JobSet::MAX_JOBS];
     let mut completions = [0u64; JobSet::MAX_JOBS];
     let mut left = total(times);
     let mut time: u64 = 0;
     while 0 < left {
-        let best = best_of(set.count, &chain, &priority, &release, times, &work, time);
+        let best = best_of(set.count, &chain, &urgency, &release, times, &work, time);
         if best.found {
             let at = best.at;
             work[at] = work[at] + 1;

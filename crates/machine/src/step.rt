@@ -99,11 +99,11 @@ fn advance(state: State, set: JobSet, columns: Columns, times: &[u64]) -> Steppe
     ensures { λ r. ⌜ r ≡ tickOf (jobsOf set) (now (times .entry)) state ⌝ }
 {
     let chain = columns.chain;
-    let priority = columns.priority;
+    let urgency = columns.urgency;
     let release = columns.release;
     let work = state.work;
     let time = state.time;
-    let best = best_of(set.count, &chain, &priority, &release, times, &work, time);
+    let best = best_of(set.count, &chain, &urgency, &release, times, &work, time);
     if best.found {
         let at = best.at;
         let mut next = state;

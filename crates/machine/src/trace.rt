@@ -68,7 +68,7 @@ fn write_entries(set: JobSet, times: &[u64], out: &mut [u64]) -> usize
 {
     let columns = columns_of(set);
     let chain = columns.chain;
-    let priority = columns.priority;
+    let urgency = columns.urgency;
     let release = columns.release;
     let mut work = [0u64; JobSet::MAX_JOBS];
     let mut left = total(times);
@@ -80,7 +80,7 @@ fn write_entries(set: JobSet, times: &[u64], out: &mut [u64]) -> usize
     let mut entries: usize = 0;
     let mut time: u64 = 0;
     while 0 < left {
-        let best = best_of(set.count, &chain, &priority, &release, times, &work, time);
+        let best = best_of(set.count, &chain, &urgency, &release, times, &work, time);
         if best.found {
             let at = best.at;
             let put = put_at(last, entries, at, time);

@@ -11,8 +11,8 @@ use native.Mathlib.Omega.{arith}
 use lib.ListN.{length, take, length-take}
 use lib.Seq.{ext-getD, getD-take}
 use Rattle.jobs.specs.declared.job.Job.{Job}
-use Rattle.jobs.specs.Jobs.{jobAt}
-use Rattle.theory.specs.Table.{Table, effective, urgencyOf, latestOf, given, tableOf}
+use Rattle.jobs.specs.Jobs.{jobAt, urgencyOf}
+use Rattle.theory.specs.Table.{Table, effective, latestOf, given, tableOf}
 use Rattle.theory.specs.Bounds.{boundAt, ert, always, cja}
 use Rattle.theory.specs.Rounds.{after, Answer, itr}
 use Rattle.theory.specs.Parts.{Part, LessUrgent}

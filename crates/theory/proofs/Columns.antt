@@ -7,8 +7,8 @@ use mathlib.Core.Path.{_≡_, ap, fun-ext}
 use mathlib.Core.List.{List, map}
 use lib.ListN.{length, getD, List·getD-map}
 use Rattle.jobs.specs.declared.job.Job.{Job}
-use Rattle.jobs.specs.Jobs.{noJob}
-use Rattle.theory.specs.Table.{Table, effective, urgencyOf, latestOf, given, tableOf}
+use Rattle.jobs.specs.Jobs.{noJob, urgencyOf}
+use Rattle.theory.specs.Table.{Table, effective, latestOf, given, tableOf}
 
 abbrev pub fromColumns : ℕ → List ℕ → List ℕ → List ℕ → List ℕ → List ℕ → List ℕ → Table
 fromColumns n chains urgencies leasts mosts earliests latests =
@@ -34,6 +34,7 @@ columnsOf js =
     (map latestOf js)
 
 pub columns-given : (js : List Job) → columnsOf js ≡ given js
+unfolding urgencyOf
 columns-given js =
     let at : (f : Job → ℕ) → _≡_ {A = ℕ → ℕ} (λ n. getD (map f js) n (f noJob)) (λ n. f (getD js n noJob)) = (λ f. fun-ext (λ n. List·getD-map f js n noJob)) in
     λ i.

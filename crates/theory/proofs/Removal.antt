@@ -16,9 +16,9 @@ use lib.ListN.{length}
 use borrow.Author.Tests.{lt-ltb, le-ltb, eqb-false, ne-eqb}
 use Rattle.laws.proofs.Tests.{by-test, by-order, by-equal}
 use Rattle.jobs.specs.declared.job.Job.{Job}
-use Rattle.jobs.specs.Jobs.{jobAt}
+use Rattle.jobs.specs.Jobs.{jobAt, urgencyOf}
 use Rattle.jobs.specs.Joins.{renumbered}
-use Rattle.theory.specs.Table.{urgencyOf, latestOf, given, tableOf}
+use Rattle.theory.specs.Table.{latestOf, given, tableOf}
 use Rattle.theory.specs.Parts.{Part, LessUrgent}
 use Rattle.theory.specs.Claims.{Compared}
 use Rattle.theory.proofs.WellFormed.{Ordered}
@@ -158,6 +158,7 @@ module _ (c : ℕ) where
       (λ e. none-lost js u (omega arith) ne (λ i il z. left (suc i) (rw (jobs-on j js e) (omega arith)) (place-suc j js e i ∙ ap suc z)))
 
   given-part : (js : List Job) → Part (given (withoutChain c js)) (given js) (oldPlace c js) (oldNumber c)
+  unfolding urgencyOf
   given-part js =
       let same : (f : Job → ℕ) (i : ℕ) → i < length (withoutChain c js) → f (movedDown c (jobAt js (oldPlace c js i))) ≡ f (jobAt (withoutChain c js) i)
       = (λ f i l. ap f (sym (kept js i l .same))) in

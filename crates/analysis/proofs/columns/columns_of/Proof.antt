@@ -42,6 +42,9 @@ mul-columns c = search needs
 element-write-columns : tie.Need-element-write-columns Inv-loop μ-loop
 element-write-columns c = search needs
 
+urgency-requires : tie.Need-urgency-requires Inv-loop μ-loop
+urgency-requires c κs = search needs
+
 mul-columns-2 : tie.Need-mul-columns-2 Inv-loop μ-loop
 mul-columns-2 c = search needs
 
@@ -70,7 +73,7 @@ element-write-columns-5 : tie.Need-element-write-columns-5 Inv-loop μ-loop
 element-write-columns-5 c = search needs
 
 first-of-requires : tie.Need-first-of-requires Inv-loop μ-loop
-first-of-requires c κs = c .before .before .before .before .loop .inv .1 .heads .within
+first-of-requires c κs = c .before .before .before .before .before .loop .inv .1 .heads .within
 
 add-columns : tie.Need-add-columns Inv-loop μ-loop
 add-columns c = search needs
@@ -83,12 +86,12 @@ element-write-columns-6 c = search needs
 
 add-ready : tie.Need-add-ready Inv-loop μ-loop
 add-ready c =
-    let s = c .before .before .before .before .before .before .before .args .t1 in
-    let ok = accepted (jobsOf s) (c .before .before .before .before .before .before .before .pre) in
-    let l = c .before .before .before .before .before .before .loop in
-    let taken = c .before .before .before .before .before .loop-test .taken in
+    let s = c .before .before .before .before .before .before .before .before .args .t1 in
+    let ok = accepted (jobsOf s) (c .before .before .before .before .before .before .before .before .pre) in
+    let l = c .before .before .before .before .before .before .before .loop in
+    let taken = c .before .before .before .before .before .before .loop-test .taken in
     let h : l .i < length (jobsOf s) = omega (arith, length-jobs s, taken) in
-    let e = gathered-earliest (jobsOf s) (ok .few) (l .i) h _ (sym (job-at s (l .i) taken)) (l .inv .1) (c .before .before .before .not-before .result) (c .before .before .before .not-before .ensures) in
+    let e = gathered-earliest (jobsOf s) (ok .few) (l .i) h _ (sym (job-at s (l .i) taken)) (l .inv .1) (c .before .before .before .before .not-before .result) (c .before .before .before .before .not-before .ensures) in
     let limits = rw (job-at s (l .i) taken) at (ok .limits (l .i) h) in
     search (needs, e, accepted-latest (jobsOf s) ok (l .i) h, earliest-latest (jobsOf s) (l .i), limits .range, limits .time)
 
@@ -100,12 +103,12 @@ loop-less c = search needs
 
 loop-again : tie.Need-loop-again Inv-loop μ-loop
 loop-again c =
-    let s = c .before .before .before .before .before .before .before .args .t1 in
-    let ok = accepted (jobsOf s) (c .before .before .before .before .before .before .before .pre) in
-    let l = c .before .before .before .before .before .before .loop in
-    let taken = c .before .before .before .before .before .loop-test .taken in
+    let s = c .before .before .before .before .before .before .before .before .args .t1 in
+    let ok = accepted (jobsOf s) (c .before .before .before .before .before .before .before .before .pre) in
+    let l = c .before .before .before .before .before .before .before .loop in
+    let taken = c .before .before .before .before .before .before .loop-test .taken in
     let h : l .i < length (jobsOf s) = omega (arith, length-jobs s, taken) in
-    (l .inv .0, gathered-next (jobsOf s) (ok .few) (l .i) h _ (sym (job-at s (l .i) taken)) (l .inv .1) (c .before .before .before .not-before .result) (c .before .before .before .not-before .ensures) (accepted-ordered (jobsOf s) ok) (c .before .before .larger .result) (c .before .before .larger .ensures) (c .before .first-of .result) (c .before .first-of .ensures .0))
+    (l .inv .0, gathered-next (jobsOf s) (ok .few) (l .i) h _ (sym (job-at s (l .i) taken)) (l .inv .1) (c .before .before .before .before .not-before .result) (c .before .before .before .before .not-before .ensures) (accepted-ordered (jobsOf s) ok) (c .before .before .before .urgency .result) (c .before .before .before .urgency .ensures) (c .before .before .larger .result) (c .before .before .larger .ensures) (c .before .first-of .result) (c .before .first-of .ensures .0))
 
 returns : tie.Need-returns Inv-loop μ-loop
 returns c =
@@ -126,6 +129,7 @@ columns-of-spec =
     not-before-requires
     mul-columns
     element-write-columns
+    urgency-requires
     mul-columns-2
     element-write-columns-2
     mul-columns-3

@@ -12,7 +12,7 @@ is-ready-requires c κs = search needs
 
 returns : tie.Need-returns
 unfolding considered
-returns c = let a = c .before .before .before .args in simp (sym (ready-seen (a .chain .now) (a .priority .now) (a .release .now) (a .times .now) (stateOf (a .time) (a .work .now)) (a .at)) ∙ sym (c .before .is-ready .ensures) ∙ not-true _ (c .if1 .taken))
+returns c = let a = c .before .before .before .args in simp (sym (ready-seen (a .chain .now) (a .urgency .now) (a .release .now) (a .times .now) (stateOf (a .time) (a .work .now)) (a .at)) ∙ sym (c .before .is-ready .ensures) ∙ not-true _ (c .if1 .taken))
 
 mul-better-of : tie.Need-mul-better-of
 mul-better-of c = search needs
@@ -31,7 +31,7 @@ better-of-requires c κs = search needs
 
 returns-2 : tie.Need-returns-2
 unfolding considered
-returns-2 c = let a = c .before .before .before .before .before .before .args in simp (sym (ready-seen (a .chain .now) (a .priority .now) (a .release .now) (a .times .now) (stateOf (a .time) (a .work .now)) (a .at)) ∙ sym (c .before .before .before .before .is-ready .ensures) ∙ not-false _ (c .before .before .before .if1 .left)) (c .better-of .ensures)
+returns-2 c = let a = c .before .before .before .before .before .before .args in simp (sym (ready-seen (a .chain .now) (a .urgency .now) (a .release .now) (a .times .now) (stateOf (a .time) (a .work .now)) (a .at)) ∙ sym (c .before .before .before .before .is-ready .ensures) ∙ not-false _ (c .before .before .before .if1 .left)) (c .better-of .ensures)
 
 pub consider-spec : {M : Type 1} → statement M
 consider-spec =

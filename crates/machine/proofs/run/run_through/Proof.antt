@@ -14,10 +14,10 @@ use Rattle.machine.proofs.run.run_through.Statement.{statement}
 use Rattle.machine.proofs.run.run_through.Tie as tie
 
 abbrev Inv-loop : tie.InvT-loop
-Inv-loop set times chain priority release work₀ completions₀ left₀ time₀ work completions left time = Reached (jobsOf set) times work left time × Noted (jobsOf set) times completions time
+Inv-loop set times chain urgency release work₀ completions₀ left₀ time₀ work completions left time = Reached (jobsOf set) times work left time × Noted (jobsOf set) times completions time
 
 abbrev μ-loop : tie.MeasureT-loop
-μ-loop set times chain priority release work₀ completions₀ left₀ time₀ work completions left time = lastTime - time
+μ-loop set times chain urgency release work₀ completions₀ left₀ time₀ work completions left time = lastTime - time
 
 prepared : (c : tie.After-columns-of Inv-loop μ-loop) → Prepared (jobsOf (c .before .before .args .set)) (c .columns-of .result) (now (c .before .before .args .times))
 prepared c = prepared-of _ _ _ (c .before .before .pre) (c .columns-of .ensures)

@@ -22,10 +22,10 @@ use Rattle.machine.proofs.trace.write_entries.Statement.{statement}
 use Rattle.machine.proofs.trace.write_entries.Tie as tie
 
 abbrev Inv-loop : tie.InvT-loop
-Inv-loop times out₀ set chain priority release work₀ left₀ last₀ entries₀ time₀ out work left last entries time = Reached (jobsOf set) times work left time × Written (jobsOf set) times out₀ out last entries time
+Inv-loop times out₀ set chain urgency release work₀ left₀ last₀ entries₀ time₀ out work left last entries time = Reached (jobsOf set) times work left time × Written (jobsOf set) times out₀ out last entries time
 
 abbrev μ-loop : tie.MeasureT-loop
-μ-loop times out₀ set chain priority release work₀ left₀ last₀ entries₀ time₀ out work left last entries time = lastTime - time
+μ-loop times out₀ set chain urgency release work₀ left₀ last₀ entries₀ time₀ out work left last entries time = lastTime - time
 
 prepared : (c : tie.After-columns-of Inv-loop μ-loop) → Prepared (jobsOf (c .before .before .before .args .t1)) (c .columns-of .result) (now (c .before .before .before .args .times))
 prepared c = prepared-of _ _ _ (c .before .before .before .pre .0) (c .columns-of .ensures)
