@@ -11,7 +11,7 @@ use lib.Seq.{take-suc, drop-cons, length-take-le}
 use lib.Dec.{leb, ltb, eqb}
 use borrow.Author.Tests.{leb-true, leb-false, ltb-true, eqb-true, eq-eqb, ne-eqb, le-leb, lt-ltb}
 use Rattle.laws.specs.Words.{lastOf}
-use Rattle.laws.proofs.Tests.{by-test, and-left, and-right}
+use Rattle.laws.proofs.Tests.{by-test, and-left, and-right, and-parts}
 use Rattle.jobs.specs.declared.job.Job.{Job}
 use Rattle.jobs.specs.declared.refusal.Refusal.{Refusal}
 use Rattle.jobs.specs.declared.refusal.Check.{Check}
@@ -92,25 +92,20 @@ first-next last j e =
 limited : (j : Job) → inLimits j ≡ true → Limited j
 unfolding inLimits
 limited j e =
-    let a = leb (j .chain) maxChains in
-    let b = a && leb (j .release) maxRelease in
-    let c = b && leb (j .priority) maxPriority in
-    let d = c && leb 1 (j .least) in
-    let f = d && leb (j .least) (j .most) in
-    let g = f && leb (j .most) maxTime in
-    let eg = and-left g (leb (j .deadline) maxDeadline) e in
-    let ef = and-left f (leb (j .most) maxTime) eg in
-    let ed = and-left d (leb (j .least) (j .most)) ef in
-    let ec = and-left c (leb 1 (j .least)) ed in
-    let eb = and-left b (leb (j .priority) maxPriority) ec in
+    let deadline = and-parts e in
+    let time = and-parts (deadline .0) in
+    let range = and-parts (time .0) in
+    let positive = and-parts (range .0) in
+    let priority = and-parts (positive .0) in
+    let release = and-parts (priority .0) in
     record {
-      chains = leb-true (j .chain) maxChains (and-left a (leb (j .release) maxRelease) eb);
-      release = leb-true (j .release) maxRelease (and-right a _ eb);
-      priority = leb-true (j .priority) maxPriority (and-right b _ ec);
-      positive = leb-true 1 (j .least) (and-right c _ ed);
-      range = leb-true (j .least) (j .most) (and-right d _ ef);
-      time = leb-true (j .most) maxTime (and-right f _ eg);
-      deadline = leb-true (j .deadline) maxDeadline (and-right g _ e);
+      chains = leb-true (j .chain) maxChains (release .0);
+      release = leb-true (j .release) maxRelease (release .1);
+      priority = leb-true (j .priority) maxPriority (priority .1);
+      positive = leb-true 1 (j .least) (positive .1);
+      range = leb-true (j .least) (j .most) (range .1);
+      time = leb-true (j .most) maxTime (time .1);
+      deadline = leb-true (j .deadline) maxDeadline (deadline .1);
     }
 
 -- ---- all records

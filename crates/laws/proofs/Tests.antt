@@ -38,6 +38,9 @@ pub and-right : (a b : Bool) → a && b ≡ true → b ≡ true
 and-right true b e = e
 and-right false b e = absurd (true≢false (sym e))
 
+pub and-parts : {a b : Bool} → a && b ≡ true → (a ≡ true) × (b ≡ true)
+and-parts {a} {b} e = (and-left a b e, and-right a b e)
+
 pub and-both : (a b : Bool) → a ≡ true → b ≡ true → a && b ≡ true
 and-both a b p q = rw (p, q) refl
 

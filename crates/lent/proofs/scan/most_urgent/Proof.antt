@@ -77,6 +77,10 @@ use Rattle.lent.proofs.scan.most_urgent.Code.Mir as body
 abbrev stayed : Stays (most-urgent.ended .signature .params) (most-urgent.ended .kept)
 stayed = (stay-none-slice (0 ∷ []) tt (plain (λ _. J.the-row)) yes, (stay-none-slice (1 ∷ []) tt (plain (λ _. u64)) yes, (stay-none (λ _. S.the-row) yes, tt)))
 
+-- the size of a job record
+abbrev job-bytes : ℕ
+job-bytes = 56
+
 -- machine values
 abbrev job-vals : Job → List Val
 job-vals = LL.vals J.the-type J′.the-laws
@@ -228,7 +232,7 @@ module _ {M : Type 1} (𝓤 : URA M) (H : Heap 𝓤) (A : Atoms 𝓤) (W : Given
         stays ! (load ! (from ! (stop !)) (look ! 7 refl)) $
         assigns ! (bin ! (load ! (from ! (stop !)) (look ! 4 refl)) (lit ! tt) (record { fits = scaled })) (from ! (stop !)) (store ! 6 refl (tt, record { fits = scaled })) $
         assigns ! (bin ! (load ! (from ! (fld ! refl (stop !))) (look-in ! 10 (sub ! 0 refl (whole !)))) (load ! (from ! (stop !)) (look ! 6 refl)) tt) (from ! (stop !)) (init ! 8 refl (tt, tt)) $
-        rewrite ! 8 (λ (p : ℕ). ‵ (fat fullShare tyPtr l₁₀ 0 (vptr b p))) (sym (place-is 56 o (i .0))) refl $
+        rewrite ! 8 (λ (p : ℕ). ‵ (fat fullShare tyPtr l₁₀ 0 (vptr b p))) (sym (place-is job-bytes o (i .0))) refl $
         elem-out ! J.the-row (Is J.the-row) (shows 𝓤 H A J.the-row) job-vals (LL.tells J.the-type J′.the-laws) q′ (js .now) (i .0) noJob b o small (λ g.
         -- [the job's cell; what it owns; the others; κ₁'s token; …: all two further]
         assigns ! (of-opd ! (load ! (from ! (hop ! (look ! 10 refl) (stop !))) (look-raw ! 0 refl))) (from ! (stop !)) (init ! 11 refl (LL.lawful J.the-type J′.the-laws 𝓤 H A W .typed (job (i .0)) _ g .0)) $
@@ -256,7 +260,7 @@ module _ {M : Type 1} (𝓤 : URA M) (H : Heap 𝓤) (A : Atoms 𝓤) (W : Given
         i-fits : i .0 < 2 ^ 64
         i-fits = omega (arith, room .0, small)
 
-        scaled : i .0 * 56 < 2 ^ 64
+        scaled : i .0 * job-bytes < 2 ^ 64
         scaled = omega (arith, room .1, small)
 
         next-fits : i .0 + 1 < 2 ^ 64
