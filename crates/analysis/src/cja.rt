@@ -21,6 +21,7 @@ pub(crate) fn accepted_cja(set: JobSet) -> [u64; JobSet::MAX_JOBS]
     let count = set.count;
     let columns = columns_of(set);
     let late = [Bounds::LIMIT; JobSet::MAX_JOBS];
+    let mut bounds = [0u64; JobSet::MAX_JOBS];
     round(
         count,
         &columns.ends,
@@ -30,7 +31,9 @@ pub(crate) fn accepted_cja(set: JobSet) -> [u64; JobSet::MAX_JOBS]
         &columns.earliest,
         &columns.latest,
         &late,
-    )
+        &mut bounds,
+    );
+    bounds
 }
 
 // The CJA bounds of all jobs.

@@ -75,7 +75,18 @@ fn settle<'a>(
     let mut bounds = start(count, chain, urgency, most, earliest, latest);
     let mut rounds: u64 = 0;
     loop {
-        let next = round(count, ends, chain, urgency, most, earliest, latest, &bounds);
+        let mut next = [0u64; JobSet::MAX_JOBS];
+        round(
+            count,
+            ends,
+            chain,
+            urgency,
+            most,
+            earliest,
+            latest,
+            &bounds,
+            &mut next,
+        );
         let taken = rounds + 1;
         if same_bounds(count, &next, &bounds) {
             return Itr {

@@ -1,13 +1,13 @@
 // One round: CJA for all jobs, where only jobs whose spans overlap count.
-ghost use Rattle.laws.specs.Words.{_≡_, padded};
+ghost use Rattle.laws.specs.Words.{_≡_, replicate, padded};
 ghost use Rattle.jobs.specs.Limits.{maxJobs};
 ghost use Rattle.theory.specs.Rounds.{round as Theory·round};
 ghost use Rattle.analysis.specs.Private.{lent, Fit, Ended};
 use crate::pair::largest_pair;
 use jobs::set::JobSet;
 
-// The bounds of all jobs from the bounds before.
-pub(crate) fn round<'a, 'b>(
+// The bounds of all jobs from the bounds before, into an array of zeros.
+pub(crate) fn round<'a, 'b, 'c>(
     count: usize,
     ends: &'a [usize; JobSet::MAX_JOBS],
     chain: &'a [u64; JobSet::MAX_JOBS],
@@ -16,14 +16,14 @@ pub(crate) fn round<'a, 'b>(
     earliest: &'a [u64; JobSet::MAX_JOBS],
     latest: &'a [u64; JobSet::MAX_JOBS],
     bound: &'b [u64; JobSet::MAX_JOBS],
-) -> [u64; JobSet::MAX_JOBS]
-    requires { ⌜ Fit (lent count (now chain) (now urgency) (now most) (now earliest) (now latest)) × Ended count (now chain) (now ends) ⌝ }
-    ensures { λ r. ⌜ r ≡ padded maxJobs 0 (Theory·round (lent count (now (chain .entry)) (now (urgency .entry)) (now (most .entry)) (now (earliest .entry)) (now (latest .entry))) (now (bound .entry))) ⌝ }
+    next: &'c mut [u64; JobSet::MAX_JOBS],
+)
+    requires { ⌜ Fit (lent count (now chain) (now urgency) (now most) (now earliest) (now latest)) × Ended count (now chain) (now ends) × (now next ≡ replicate maxJobs 0) ⌝ }
+    ensures { λ r. ⌜ now (next .exit) ≡ padded maxJobs 0 (Theory·round (lent count (now (chain .entry)) (now (urgency .entry)) (now (most .entry)) (now (earliest .entry)) (now (latest .entry))) (now (bound .entry))) ⌝ }
 {
-    let mut bounds = [0u64; JobSet::MAX_JOBS];
     let mut j: usize = 0;
     while j < count {
-        bounds[j] = largest_pair(
+        next[j] = largest_pair(
             count,
             ends,
             chain,
@@ -36,5 +36,4 @@ pub(crate) fn round<'a, 'b>(
         );
         j += 1;
     }
-    bounds
 }

@@ -13,27 +13,27 @@ use Rattle.analysis.proofs.round.round.Statement.{statement}
 use Rattle.analysis.proofs.round.round.Tie as tie
 
 abbrev Inv-loop : tie.InvT-loop
-Inv-loop count ends chain urgency most earliest latest bound bounds₀ j₀ bounds j =
-    (j ≤ count) × (bounds ≡ column j (roundAt (lent count chain urgency most earliest latest) bound))
+Inv-loop count ends chain urgency most earliest latest bound next₀ j₀ next j =
+    (j ≤ count) × (next ≡ column j (roundAt (lent count chain urgency most earliest latest) bound))
 
 abbrev μ-loop : tie.MeasureT-loop
-μ-loop count ends chain urgency most earliest latest bound bounds₀ j₀ bounds j = count - j
+μ-loop count ends chain urgency most earliest latest bound next₀ j₀ next j = count - j
 
 -- the table of the lent columns
 abbrev table : tie.Start Inv-loop μ-loop → Table
 table s = lent (s .args .count) (s .args .chain .now) (s .args .urgency .now) (s .args .most .now) (s .args .earliest .now) (s .args .latest .now)
 
 loop-holds : tie.Need-loop-holds Inv-loop μ-loop
-loop-holds c = (omega arith, filled-none maxJobs 0 _)
+loop-holds c = (omega arith, c .pre .2 ∙ filled-none maxJobs 0 _)
 
 largest-pair-requires : tie.Need-largest-pair-requires Inv-loop μ-loop
 largest-pair-requires c κs = search needs
 
-mul-bounds : tie.Need-mul-bounds Inv-loop μ-loop
-mul-bounds c = search needs
+mul-next : tie.Need-mul-next Inv-loop μ-loop
+mul-next c = search needs
 
-array-write-bounds : tie.Need-array-write-bounds Inv-loop μ-loop
-array-write-bounds c = search needs
+element-write-next : tie.Need-element-write-next Inv-loop μ-loop
+element-write-next c = search needs
 
 add-j : tie.Need-add-j Inv-loop μ-loop
 add-j c = search needs
@@ -46,7 +46,7 @@ loop-again c =
     let s = c .before .before .before in
     let l = c .before .before .loop in
     let h = c .before .loop-test .taken in
-    (omega arith, filled-next maxJobs 0 _ (l .j) (l .bounds) _ (omega (arith, s .pre .0 .few)) (l .inv .1) (c .largest-pair .ensures))
+    (omega arith, filled-next maxJobs 0 _ (l .j) (l .next) _ (omega (arith, s .pre .0 .few)) (l .inv .1) (c .largest-pair .ensures))
 
 returns : tie.Need-returns Inv-loop μ-loop
 unfolding round cjaWith
@@ -64,8 +64,8 @@ round-spec =
     μ-loop
     loop-holds
     largest-pair-requires
-    mul-bounds
-    array-write-bounds
+    mul-next
+    element-write-next
     add-j
     loop-less
     loop-again
