@@ -1,16 +1,16 @@
 // The bounds of a set of jobs, and what follows from them: slack, verdict and admission.
 pub mod admission;
 pub mod answer;
-pub mod block;
+mod block;
 pub mod cja;
-pub mod columns;
+mod columns;
 pub mod ert;
 pub mod figures;
-pub mod interference;
+mod interference;
 pub mod itr;
-pub mod number;
-pub mod pair;
-pub mod predecessor;
-pub mod round;
+mod number;
+mod pair;
+mod predecessor;
+mod round;
 pub mod slack;
 pub mod verdict;

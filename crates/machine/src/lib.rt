@@ -1,8 +1,8 @@
 // The machine that runs the jobs of a set tick by tick, by the priority rule.
-pub mod columns;
-pub mod idle;
+mod columns;
+mod idle;
 pub mod pick;
-pub mod ready;
+mod ready;
 pub mod run;
 pub mod state;
 pub mod step;
