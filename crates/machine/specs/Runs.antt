@@ -1,9 +1,8 @@
 -- The run from time 0. Document 01, "The machine". Assumes nothing.
 use Rattle.laws.specs.Words.{ℕ, zero, suc, cond, List, replicate, tabulate}
 use Rattle.jobs.specs.declared.job.Job.{Job}
-use Rattle.jobs.specs.declared.refusal.Check.{Check}
-use Rattle.jobs.specs.declared.refusal.Check.the-variants.{Passed, Refused}
 use Rattle.jobs.specs.Limits.{maxJobs}
+use Rattle.jobs.specs.Refusals.{onPass}
 use Rattle.theory.specs.Table.{Table, tableOf}
 use Rattle.theory.specs.Runs.{Entry, names}
 use Rattle.machine.specs.declared.state.State.{State}
@@ -41,11 +40,12 @@ finish t times = after t times lastTime
 unfoldable pub completions : Table → List ℕ → List ℕ
 completions t times = tabulate 0 maxJobs (λ u. completion t times u lastTime)
 
--- The answer of a run after its check: on a refusal all figures are 0.
-abbrev pub ranBy : Check → List ℕ → ℕ → Completed
-ranBy Passed times end = record { check = Passed; completions = times; end = end }
-ranBy (Refused refusal) times end = record { check = Refused refusal; completions = replicate maxJobs 0; end = 0 }
-
--- The answer of a run: each job's completion, and the time at which all are complete, or the refusal.
+-- The answer of a run: each job's completion and the time at which all are complete, or the refusal with all figures 0.
 unfoldable pub runOf : List Job → List ℕ → Completed
-runOf js times = ranBy (machineCheck js times) (completions (tableOf js) times) (finish (tableOf js) times .time)
+runOf js times =
+    let check = machineCheck js times in
+    record {
+      check = check;
+      completions = onPass check (λ refusal. replicate maxJobs 0) (completions (tableOf js) times);
+      end = onPass check (λ refusal. 0) (finish (tableOf js) times .time);
+    }

@@ -3,9 +3,9 @@ use Rattle.laws.specs.Words.{ℕ, _+_, Bool, cond, _&&_, _||_, List, leb, ltb, 
 use Rattle.jobs.specs.declared.job.Job.{Job}
 use Rattle.jobs.specs.declared.refusal.Refusal.the-variants.{ImpossibleState}
 use Rattle.jobs.specs.declared.refusal.Check.{Check}
-use Rattle.jobs.specs.declared.refusal.Check.the-variants.{Passed, Refused}
+use Rattle.jobs.specs.declared.refusal.Check.the-variants.{Passed}
 use Rattle.jobs.specs.Jobs.{jobAt}
-use Rattle.jobs.specs.Refusals.{unless, andThen}
+use Rattle.jobs.specs.Refusals.{unless, onPass, andThen}
 use Rattle.theory.specs.Table.{Table, tableOf}
 use Rattle.theory.specs.Runs.{Entry, idle, runs}
 use Rattle.machine.specs.declared.state.State.{State}
@@ -53,11 +53,6 @@ stateCheck t times s = unless (leb (s .time) lastTime && everyBelow (t .count) (
 unfoldable pub stepCheck : List Job → List ℕ → State → Check
 stepCheck js times s = andThen (machineCheck js times) (stateCheck (tableOf js) times s)
 
--- A tick after its check: on a refusal the state stays.
-abbrev pub stepBy : Check → State → Stepped → Stepped
-stepBy Passed s ticked = ticked
-stepBy (Refused refusal) s ticked = record { ticked = RefusedTick refusal; state = s }
-
 -- The answer and the state after a tick, or the refusal and the state as it was.
 unfoldable pub stepOf : List Job → List ℕ → State → Stepped
-stepOf js times s = stepBy (stepCheck js times s) s (tickOf js times s)
+stepOf js times s = onPass (stepCheck js times s) (λ refusal. record { ticked = RefusedTick refusal; state = s }) (tickOf js times s)

@@ -3,8 +3,8 @@ use Rattle.laws.specs.Words.{ℕ, zero, suc, _*_, Bool, cond, _&&_, List, [], _
 use Rattle.jobs.specs.declared.job.Job.{Job}
 use Rattle.jobs.specs.declared.refusal.Refusal.the-variants.{ShortBuffer}
 use Rattle.jobs.specs.declared.refusal.Check.{Check}
-use Rattle.jobs.specs.declared.refusal.Check.the-variants.{Passed, Refused}
-use Rattle.jobs.specs.Refusals.{unless, andThen}
+use Rattle.jobs.specs.declared.refusal.Check.the-variants.{Passed}
+use Rattle.jobs.specs.Refusals.{unless, onPass, andThen}
 use Rattle.jobs.specs.Jobs.{jobAt}
 use Rattle.theory.specs.Table.{Table, tableOf}
 use Rattle.theory.specs.Runs.{Entry, idle, runs}
@@ -50,20 +50,10 @@ traceCheck js times room = andThen (machineCheck js times) (unless (roomFor js r
 abbrev pub traced : List Job → List ℕ → List Span
 traced js times = spans (tableOf js) times lastTime
 
--- The answer of a trace after its check.
-abbrev pub tracedBy : Check → ℕ → Traced
-tracedBy Passed n = Entries n
-tracedBy (Refused refusal) n = RefusedTrace refusal
-
 -- The answer of a trace: how many entries it has, or the refusal.
 unfoldable pub traceOf : List Job → List ℕ → ℕ → Traced
-traceOf js times room = tracedBy (traceCheck js times room) (length (traced js times))
+traceOf js times room = onPass (traceCheck js times room) RefusedTrace (Entries (length (traced js times)))
 
--- What a buffer holds after the check: a text from its start on and what it held beyond, or on a refusal all as it was.
-abbrev pub writtenBy : Check → List ℕ → List ℕ → List ℕ
-writtenBy Passed buffer text = patched buffer 0 text
-writtenBy (Refused refusal) buffer text = buffer
-
--- What a trace leaves in the lent buffer: its rows.
+-- What a trace leaves in the lent buffer: its rows from the start on and what it held beyond, or on a refusal all as it was.
 unfoldable pub tracedIn : List Job → List ℕ → List ℕ → List ℕ
-tracedIn js times buffer = writtenBy (traceCheck js times (length buffer)) buffer (rows js (traced js times))
+tracedIn js times buffer = onPass (traceCheck js times (length buffer)) (λ refusal. buffer) (patched buffer 0 (rows js (traced js times)))
