@@ -2,7 +2,7 @@
 use libc::STDIN_FILENO;
 use libc::STDOUT_FILENO;
 use report::bounds::bounds_text;
-use report::refused::print_length;
+use report::refused::ready_to_print;
 use report::written::MAX_BYTES;
 use table::reading::MAX_TEXT;
 
@@ -12,6 +12,6 @@ fn main() {
     let length = io::read_full(STDIN_FILENO, &mut text);
     let mut out = [0u8; MAX_BYTES];
     let answer = bounds_text(&text[..length], &mut out);
-    let printed = io::count(print_length(answer, &mut out) as isize, &out);
+    let printed = io::count(ready_to_print(answer, &mut out) as isize, &out);
     io::write_all(STDOUT_FILENO, &out[..printed]);
 }

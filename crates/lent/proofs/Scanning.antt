@@ -19,7 +19,8 @@ use Rattle.lent.specs.declared.scan.Scan.{Scan}
 use Rattle.machine.specs.States.{predecessorComplete, ready}
 use Rattle.machine.specs.Pick.{pickUpTo, bestOf}
 use Rattle.machine.specs.Private.{considered}
-use Rattle.lent.specs.Scans.{scanOf, follows, releasedBy, sinceBy, readyBy, bestBy, lookedAt}
+use Rattle.lent.specs.Scans.{scanOf}
+use Rattle.lent.specs.Private.{follows, releasedBy, sinceBy, readyBy, bestBy, lookedAt}
 use Rattle.machine.proofs.Picks.{considered-next}
 
 -- a released record

@@ -1,6 +1,7 @@
 // The scan over lent job records, which changes none.
 ghost use Rattle.laws.specs.Words.{_≡_, length, getD};
-ghost use Rattle.lent.specs.Scans.{scanOf, follows, releasedBy, sinceBy, readyBy, bestBy, lookedAt};
+ghost use Rattle.lent.specs.Scans.{scanOf};
+ghost use Rattle.lent.specs.Private.{follows, releasedBy, sinceBy, readyBy, bestBy, lookedAt};
 use jobs::job::Job;
 use machine::pick::Best;
 use machine::pick::better_of;

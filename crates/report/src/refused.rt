@@ -22,7 +22,7 @@ pub fn write_refused(refusal: Refusal, out: &mut [u8]) -> usize
 }
 
 // How many bytes of the buffer a program prints: the text in it, or the line of a refusal, which is written first.
-pub fn print_length(answer: Written, out: &mut [u8]) -> u32
+pub fn ready_to_print(answer: Written, out: &mut [u8]) -> u32
     ensures { λ r. ⌜ (r ≡ printLength answer (now (out .entry))) × (now (out .exit) ≡ printLeft answer (now (out .entry))) ⌝ }
 {
     match answer {

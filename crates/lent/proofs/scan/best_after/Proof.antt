@@ -1,7 +1,7 @@
 -- `best_after` meets its contract. Assumes nothing.
 use mathlib.Core.Path.{sym, _∙_}
 use borrow.Author.Needs.{needs}
-use Rattle.lent.specs.Scans.{bestBy}
+use Rattle.lent.specs.Private.{bestBy}
 use Rattle.lent.proofs.scan.best_after.Statement.{statement}
 use Rattle.lent.proofs.scan.best_after.Tie as tie
 

@@ -1,6 +1,6 @@
 -- `is_following` meets its contract. Assumes nothing.
 use borrow.Author.Needs.{needs}
-use Rattle.lent.specs.Scans.{follows}
+use Rattle.lent.specs.Private.{follows}
 use Rattle.lent.proofs.scan.is_following.Statement.{statement}
 use Rattle.lent.proofs.scan.is_following.Tie as tie
 

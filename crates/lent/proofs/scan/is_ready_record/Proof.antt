@@ -2,7 +2,7 @@
 use mathlib.Core.Path.{sym, _∙_}
 use borrow.Author.Tests.{not-true, not-false}
 use borrow.Author.Needs.{needs}
-use Rattle.lent.specs.Scans.{readyBy}
+use Rattle.lent.specs.Private.{readyBy}
 use Rattle.machine.proofs.Readiness.{eq-complete, ne-complete}
 use Rattle.lent.proofs.scan.is_ready_record.Statement.{statement}
 use Rattle.lent.proofs.scan.is_ready_record.Tie as tie

@@ -2,7 +2,7 @@
 use mathlib.Core.Path.{sym, _∙_}
 use borrow.Author.Tests.{not-true, not-false}
 use borrow.Author.Needs.{needs}
-use Rattle.lent.specs.Scans.{releasedBy}
+use Rattle.lent.specs.Private.{releasedBy}
 use Rattle.lent.proofs.scan.is_released.Statement.{statement}
 use Rattle.lent.proofs.scan.is_released.Tie as tie
 

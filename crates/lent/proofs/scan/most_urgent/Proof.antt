@@ -50,7 +50,8 @@ use denote.Triple.Table.{entered, cited}
 use denote.Triple.Walked.{says, Stays, stay-none-slice, stay-none, walkOf, AllGo, goes-none, goes-none-slice, Walks, ends-at, walked, walk-meets}
 use denote.Exit.{yes}
 use Rattle.jobs.specs.Jobs.{noJob}
-use Rattle.lent.specs.Scans.{scanOf, lookedAt}
+use Rattle.lent.specs.Scans.{scanOf}
+use Rattle.lent.specs.Private.{lookedAt}
 use Rattle.jobs.specs.declared.job.Job.{Job}
 use Rattle.lent.specs.declared.scan.Scan.{Scan}
 use Rattle.machine.specs.declared.state.State.{State}

@@ -3,7 +3,7 @@ use mathlib.Core.Path.{sym, _∙_}
 use native.Mathlib.Omega.{arith}
 use borrow.Author.Tests.{not-true, not-false}
 use borrow.Author.Needs.{needs}
-use Rattle.lent.specs.Scans.{sinceBy}
+use Rattle.lent.specs.Private.{sinceBy}
 use Rattle.lent.proofs.Scanning.{released-own, released-chain}
 use Rattle.lent.proofs.scan.since_release.Statement.{statement}
 use Rattle.lent.proofs.scan.since_release.Tie as tie

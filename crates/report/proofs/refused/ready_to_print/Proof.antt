@@ -1,9 +1,9 @@
--- `print_length` answers `printLength` and leaves `printLeft`. Assumes nothing.
+-- `ready_to_print` answers `printLength` and leaves `printLeft`. Assumes nothing.
 use Prim.Native.Nat.{_≤_}
 use borrow.Author.Needs.{needs}
 use Rattle.report.proofs.RefusedText.{refused-short}
-use Rattle.report.proofs.refused.print_length.Statement.{statement}
-use Rattle.report.proofs.refused.print_length.Tie as tie
+use Rattle.report.proofs.refused.ready_to_print.Statement.{statement}
+use Rattle.report.proofs.refused.ready_to_print.Tie as tie
 
 short : (c : tie.After-write-refused) → c .write-refused .result ≤ 30
 short c = refused-short _ _ (c .write-refused .ensures .0)
@@ -29,8 +29,8 @@ same-length c = search needs
 returns-2 : tie.Need-returns-2
 returns-2 c = rw (c .before .before .before .before .before .answer2 .given .1) (c .before .before .write-refused .ensures)
 
-pub print-length-spec : {M : Type 1} → statement M
-print-length-spec =
+pub ready-to-print-spec : {M : Type 1} → statement M
+ready-to-print-spec =
     tie.close
     (tie.spec
     enum-known-answer
