@@ -1,16 +1,17 @@
 -- The digits of a number: how many, what they spell, and the first of them. Nothing here depends on a word's size.
 -- Assumes nothing.
-use Prim.Native.Nat.{ℕ, zero, suc, _+_, _*_, _-_, _/_, _%_, _≤_, _<_}
+use Prim.Native.Nat.{ℕ, zero, suc, _+_, _*_, _^_, _-_, _/_, _%_, _≤_, _<_}
 use mathlib.Core.Path.{_≡_, refl, ap, _∙_}
 use mathlib.Core.Bool.{false}
 use mathlib.Core.List.{List, [], _∷_, _++_, append-assoc}
 use native.Mathlib.Omega.{arith}
 use native.Mathlib.Numerals.{add-one}
+use lib.IntN.{ℤ, pos, negsuc, natAbs}
 use lib.ListN.{length, getD, length-append, List·getD-append}
 use borrow.Author.Tests.{ne-eqb}
-use Rattle.decimal.specs.Digits.{digitCount, lastDigits, decimal, valueFrom, valueOf}
+use Rattle.decimal.specs.Digits.{digitCount, lastDigits, decimal, signed, valueFrom, valueOf}
 use Rattle.decimal.specs.Fields.{leadingZero}
-use Rattle.decimal.proofs.Counts.{by-digits, count-one, count-more, count-some}
+use Rattle.decimal.proofs.Counts.{by-digits, count-one, count-more, count-some, count-within}
 
 pub length-last : (k n : ℕ) → length (lastDigits k n) ≡ k
 unfolding lastDigits
@@ -20,6 +21,15 @@ length-last (suc k) n = length-append (lastDigits k (n / 10)) ((48 + n % 10) ∷
 pub length-decimal : (n : ℕ) → length (decimal n) ≡ digitCount n
 unfolding decimal
 length-decimal n = length-last (digitCount n) n
+
+-- a number below a power of ten, and an integer of such a size with its sign
+pub decimal-within : (k n : ℕ) → n < 10 ^ suc k → length (decimal n) ≤ suc k
+decimal-within k n h = omega (arith, length-decimal n, count-within k n h)
+
+pub signed-within : (k : ℕ) (z : ℤ) → natAbs z < 10 ^ suc k → length (signed z) ≤ suc k + 1
+unfolding signed
+signed-within k (pos n) h = omega (arith, decimal-within k n h)
+signed-within k (negsuc n) h = omega (arith, decimal-within k (suc n) h)
 
 pub decimal-some : (n : ℕ) → 0 < length (decimal n)
 decimal-some n = omega (arith, length-decimal n, count-some n)

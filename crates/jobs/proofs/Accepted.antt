@@ -1,7 +1,7 @@
 -- An accepted set is in order and within its limits, and a set that is so is accepted. Assumes nothing.
 use Prim.Native.Nat.{ℕ, zero, suc, _+_, _≤_, _<_}
 use mathlib.Core.Path.{_≡_, refl, sym}
-use mathlib.Core.Bool.{Bool, true, false, _&&_}
+use mathlib.Core.Bool.{Bool, true, false}
 use mathlib.Core.List.{List, [], _∷_, _++_}
 use mathlib.Core.Logic.{_⊎_, inl, inr}
 use native.Mathlib.Omega.{arith}
@@ -149,6 +149,11 @@ accepted js e =
       order = λ i h. follows i (jobAt js i) (jobAt js (suc i)) (rw (last-take js i (omega arith)) at (fine-at js all (suc i) h .next));
       limits = limited-at js all;
     }
+
+-- no job of an accepted set has a number beyond its place
+pub job-place : (js : List Job) → Accepted js → (i : ℕ) → i < length js → jobAt js i .job ≤ suc i
+job-place js ok zero l = omega (arith, ok .first .1)
+job-place js ok (suc i) l = elim (ok .order i l) [ inl e ↦ omega (arith, e .1, job-place js ok i (omega arith)) | inr e ↦ omega (arith, e .1) ]
 
 -- ---- a set in order and within its limits is accepted
 limited-within : (j : Job) → Limited j → inLimits j ≡ true

@@ -1,27 +1,25 @@
 -- A buffer of 64 bytes for each job that a set can hold has room for every text. A chain number has at most 2 digits, a job number 3, a bound 11 and a
 -- time of a run 10, so that a row of bounds takes at most 58 bytes and a row of a trace 31. Assumes nothing.
 use Prim.Native.Nat.{ℕ, zero, suc, _+_, _-_, _*_, _^_, _≤_, _<_}
-use mathlib.Core.List.{List, [], _∷_, _++_}
-use mathlib.Core.Logic.{inl, inr}
-use mathlib.Core.Path.{_≡_, sym, ap, subst}
+use mathlib.Core.List.{List, [], _∷_}
+use mathlib.Core.Path.{_≡_, sym, subst}
 use native.Mathlib.Omega.{arith}
 use lib.Dec.{ltb}
-use lib.IntN.{ℤ, pos, negsuc, natAbs, _-ℤ_}
+use lib.IntN.{ℤ, pos, natAbs, _-ℤ_}
 use lib.ListN.{length, getD, length-append, List·getD-eq-default}
 use borrow.Author.Tests.{ltb-true, ltb-false}
 use Rattle.laws.proofs.Tests.{by-test}
 use Rattle.laws.proofs.Tabulate.{getD-tabulate}
 use Rattle.decimal.specs.Digits.{decimal, signed}
-use Rattle.decimal.proofs.Counts.{count-within}
-use Rattle.decimal.proofs.Values.{length-decimal}
+use Rattle.decimal.proofs.Values.{decimal-within, signed-within}
 use Rattle.jobs.specs.declared.job.Job.{Job}
 use Rattle.jobs.specs.declared.refusal.Check.the-variants.{Passed}
-use Rattle.jobs.specs.Limits.{maxJobs, maxChains, maxDeadline}
+use Rattle.jobs.specs.Limits.{maxJobs, maxChains}
 use Rattle.jobs.specs.Jobs.{noJob, jobAt}
 use Rattle.jobs.specs.Checks.{checkOf}
-use Rattle.jobs.proofs.Accepted.{Accepted, accepted}
+use Rattle.jobs.proofs.Accepted.{Accepted, accepted, job-place}
 use Rattle.theory.specs.Table.{tableOf}
-use Rattle.theory.specs.Bounds.{boundAt, ert, cja, boundLimit}
+use Rattle.theory.specs.Bounds.{boundAt, ert, cja}
 use Rattle.theory.specs.Rounds.{itr}
 use Rattle.theory.specs.Verdicts.{slack, slacks}
 use Rattle.theory.proofs.Claims.{bounds-limited}
@@ -32,14 +30,11 @@ use Rattle.machine.proofs.SpanTimes.{EndedBy, spans-ended}
 use Rattle.machine.proofs.Claims.{trace-within-twice}
 use Rattle.report.specs.Rows.{columnText, columnsFrom, columnsText, boundsRow, boundsRows, spanText, spansText, lineEnd}
 use Rattle.report.specs.Texts.{boundsHeader, boundsText, mostTimes, traceHeader, traceText}
-use Rattle.report.specs.Claims.{maxBytes, Fits, TextsFit}
+use Rattle.report.specs.Claims.{maxBytes, TextsFit}
 use Rattle.report.proofs.RowTexts.{rowValues, row-length}
 use Rattle.report.proofs.MostTimes.{most-passed}
 
 -- ---- columns of so many digits
-digits-within : (k n : ℕ) → n < 10 ^ suc k → length (decimal n) ≤ suc k
-digits-within k n h = omega (arith, length-decimal n, count-within k n h)
-
 abbrev Narrow : List ℕ → List ℕ → Type 0
 Narrow [] widths = Unit {0}
 Narrow (value ∷ values) [] = ⊥
@@ -68,28 +63,18 @@ pub record Numbered (j : Job) : Type 0 where
   pub job : length (decimal (j .job)) ≤ 3
 
 numbered-by : (j : Job) → j .chain ≤ maxChains → j .job ≤ maxJobs → Numbered j
-numbered-by j c k = record { chain = digits-within 1 (j .chain) (omega arith); job = digits-within 2 (j .job) (omega arith) }
+numbered-by j c k = record { chain = decimal-within 1 (j .chain) (omega arith); job = decimal-within 2 (j .job) (omega arith) }
 
 module _ (js : List Job) (ok : Accepted js) where
-  job-place : (i : ℕ) → i < length js → jobAt js i .job ≤ suc i
-  job-place zero l = omega (arith, ok .first .1)
-  job-place (suc i) l =
-      elim (ok .order i l) [ inl e ↦ omega (arith, e .1, job-place i (omega arith)) | inr e ↦ omega (arith, e .1) ]
-
   numbered-at : (i : ℕ) → Numbered (jobAt js i)
   numbered-at i =
       by-test (ltb i (length js))
       (λ t.
       let l = ltb-true i (length js) t in
-      numbered-by (jobAt js i) (ok .limits i l .chains) (omega (arith, job-place i l, ok .few)))
+      numbered-by (jobAt js i) (ok .limits i l .chains) (omega (arith, job-place js ok i l, ok .few)))
       (λ t. subst Numbered (sym (List·getD-eq-default js noJob (ltb-false i (length js) t))) (numbered-by noJob (omega arith) (omega arith)))
 
 -- ---- a slack
-signed-within : (z : ℤ) → natAbs z < 10 ^ 11 → length (signed z) ≤ 12
-unfolding signed
-signed-within (pos n) h = omega (arith, digits-within 10 n h)
-signed-within (negsuc n) h = omega (arith, digits-within 10 (suc n) h)
-
 small-difference : (d b : ℕ) → d < 10 ^ 11 → b < 10 ^ 11 → natAbs (pos d -ℤ pos b) < 10 ^ 11
 small-difference d zero h k = omega arith
 small-difference d (suc b) h k = by-test (ltb d (suc b)) (λ t. simp t (omega arith)) (λ t. simp t (omega arith))
@@ -103,7 +88,7 @@ module _ (js : List Job) (passed : checkOf js ≡ Passed) where
   slack-within i l =
       subst (λ (z : ℤ). length (signed z) ≤ 12)
       (sym (getD-tabulate 0 (length js) (λ k. slack (jobAt js k .deadline) (boundAt (itr (tableOf js) .bounds) k)) (pos 0) i l))
-      (signed-within _ (small-difference (jobAt js (0 + i) .deadline) (boundAt (itr (tableOf js) .bounds) (0 + i)) (omega (arith, ok .limits (0 + i) (omega arith) .deadline))
+      (signed-within 10 _ (small-difference (jobAt js (0 + i) .deadline) (boundAt (itr (tableOf js) .bounds) (0 + i)) (omega (arith, ok .limits (0 + i) (omega arith) .deadline))
       (omega (arith, bounds-limited js passed .by-itr (0 + i) (omega arith)))))
 
   -- ---- the rows of bounds
@@ -120,7 +105,7 @@ module _ (js : List Job) (passed : checkOf js ≡ Passed) where
       let r = getD (itr t .bounds) i 0 in
       let numbers = numbered-at js ok i in
       let narrow : Narrow (rowValues (jobAt js i) e c r) (2 ∷ 3 ∷ 11 ∷ 11 ∷ 11 ∷ []) =
-      (numbers .chain, (numbers .job, (digits-within 10 e (omega (arith, low .by-ert i l)), (digits-within 10 c (omega (arith, low .by-cja i l)), (digits-within 10 r (omega (arith, low .by-itr i l)), tt))))) in
+      (numbers .chain, (numbers .job, (decimal-within 10 e (omega (arith, low .by-ert i l)), (decimal-within 10 c (omega (arith, low .by-cja i l)), (decimal-within 10 r (omega (arith, low .by-itr i l)), tt))))) in
       omega (arith, row-length (jobAt js i) e c r (getD (slacks js) i (pos 0)), columns-within 0 (rowValues (jobAt js i) e c r) (2 ∷ 3 ∷ 11 ∷ 11 ∷ 11 ∷ []) narrow, slack-within i l)
 
   abbrev bounds-rows : ℕ → List ℕ
@@ -142,7 +127,7 @@ module _ (js : List Job) (passed : checkOf js ≡ Passed) where
   span-within s from to =
       let numbers = numbered-at js ok (s .at) in
       let narrow : Narrow (row js s) (2 ∷ 3 ∷ 10 ∷ 10 ∷ []) =
-      (numbers .chain, (numbers .job, (digits-within 9 (s .from) (omega arith), (digits-within 9 (s .to) (omega arith), tt)))) in
+      (numbers .chain, (numbers .job, (decimal-within 9 (s .from) (omega arith), (decimal-within 9 (s .to) (omega arith), tt)))) in
       omega (arith, length-append (columnsText (row js s)) lineEnd, columns-within 0 (row js s) (2 ∷ 3 ∷ 10 ∷ 10 ∷ []) narrow)
 
   spans-within : (ss : List Span) → EndedBy lastTime ss → length (spansText js ss) ≤ 31 * length ss

@@ -14,10 +14,10 @@ use Rattle.report.specs.Rows.{columnsText, lineEnd, slackText, boundsRow
 use Rattle.report.proofs.ColumnTexts.{word-digits}
 
 -- an integer of 64 bits has at most 19 digits, and takes at most 21 bytes
-pub signed-within : (z : ℤ) → SFits w64 z → length (signed z) ≤ 21
+pub signed-word : (z : ℤ) → SFits w64 z → length (signed z) ≤ 21
 unfolding signed
-signed-within (pos n) f = omega (arith, length-decimal n, word-digits n (omega (arith, f .sfits)))
-signed-within (negsuc n) f = omega (arith, length-decimal (suc n), word-digits (suc n) (omega (arith, f .sfits)))
+signed-word (pos n) f = omega (arith, length-decimal n, word-digits n (omega (arith, f .sfits)))
+signed-word (negsuc n) f = omega (arith, length-decimal (suc n), word-digits (suc n) (omega (arith, f .sfits)))
 
 pub slack-length : (z : ℤ) → length (slackText z) ≡ length (signed z) + 1
 unfolding slackText

@@ -2,7 +2,7 @@
 use jobs::refusal::Refusal;
 use jobs::set::JobSet;
 
-// As many bytes as any text takes, by the theorem `texts-fit`.
+// Enough for every text of an accepted set, by the theorem `texts-fit`.
 pub const MAX_BYTES: usize = 64 * JobSet::MAX_JOBS;
 
 pub enum Written {

@@ -1,6 +1,5 @@
 -- `share` answers nothing for the target's own chain, and the largest block of any other. Assumes nothing.
 use borrow.Author.Tests.{eq-eqb, ne-eqb}
-use borrow.Author.Needs.{needs}
 use Rattle.analysis.proofs.block.share.Statement.{statement}
 use Rattle.analysis.proofs.block.share.Tie as tie
 

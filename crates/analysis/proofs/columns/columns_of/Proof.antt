@@ -1,15 +1,13 @@
 -- `columns_of` answers `columnsOf` with the ends of the chains. The loop's invariant: the columns hold the figures of the first i jobs. Assumes nothing.
-use Prim.Native.Nat.{ℕ, _-_, _≤_, _<_}
-use mathlib.Core.Path.{_≡_, sym, ap, subst, _∙_}
+use Prim.Native.Nat.{_-_, _≤_, _<_}
+use mathlib.Core.Path.{_≡_, sym}
 use native.Mathlib.Omega.{arith}
 use lib.ListN.{length}
 use borrow.Author.Needs.{needs}
-use Rattle.jobs.specs.declared.set.JobSet.{JobSet}
 use Rattle.jobs.specs.Limits.{maxJobs}
 use Rattle.jobs.specs.Jobs.{jobsOf}
 use Rattle.jobs.proofs.Sets.{length-jobs, job-at}
 use Rattle.jobs.proofs.Accepted.{accepted}
-use Rattle.theory.specs.Table.{tableOf}
 use Rattle.theory.proofs.Releases.{earliest-latest}
 use Rattle.theory.proofs.AcceptedSets.{accepted-ordered, accepted-latest}
 use Rattle.analysis.proofs.Gathered.{Gathered, gathered-none, gathered-earliest, gathered-next, gathered-all, gathered-ended}

@@ -6,7 +6,7 @@ use lib.ListN.{length}
 use mir.Facts.{toZ-ofZ}
 use borrow.Author.Needs.{needs}
 use Rattle.decimal.specs.Digits.{signed}
-use Rattle.report.proofs.RowTexts.{signed-within, row-length}
+use Rattle.report.proofs.RowTexts.{signed-word, row-length}
 use Rattle.report.proofs.row.row_length.Statement.{statement}
 use Rattle.report.proofs.row.row_length.Tie as tie
 
@@ -15,7 +15,7 @@ slack-is : (c : tie.After-signed-length) → c .signed-length .result ≡ length
 slack-is c = rw (toZ-ofZ (c .before .before .before .fits .slack)) at (c .signed-length .ensures)
 
 slack-within : (c : tie.After-signed-length) → length (signed (c .before .before .before .args .slack)) ≤ 21
-slack-within c = signed-within (c .before .before .before .args .slack) (c .before .before .before .fits .slack)
+slack-within c = signed-word (c .before .before .before .args .slack) (c .before .before .before .fits .slack)
 
 slice-aggregate-columns-length : tie.Need-slice-aggregate-columns-length
 slice-aggregate-columns-length c = search needs
