@@ -1,28 +1,11 @@
 -- The answers of the public functions. Document 01, "Bounds", the refusals of a set and of admission, and number 10. Unused places of an answer are 0.
 -- Assumes nothing.
 use Rattle.laws.specs.Words.{ℕ, _≤_, _<_, max, _≡_, Bool, true, false, cond, List, [], eqb, ℤ, pos, length, padded}
-use Rattle.jobs.specs.declared.job.Job.{Job}
-use Rattle.jobs.specs.declared.set.JobSet.{JobSet}
-use Rattle.jobs.specs.declared.refusal.Refusal.the-variants.{UnknownAlgorithm}
-use Rattle.jobs.specs.declared.refusal.Check.{Check}
-use Rattle.jobs.specs.declared.refusal.Check.the-variants.{Passed}
-use Rattle.jobs.specs.Limits.{maxJobs}
-use Rattle.jobs.specs.Refusals.{onPass}
-use Rattle.jobs.specs.Jobs.{jobsOf, setOf}
-use Rattle.jobs.specs.Checks.{checkOf}
-use Rattle.jobs.specs.Joins.{withChain, joinCheck}
-use Rattle.theory.specs.Table.{Table, tableOf}
-use Rattle.theory.specs.Bounds.{ert, cja}
-use Rattle.theory.specs.Rounds.{Answer, roundLimit, itr}
-use Rattle.theory.specs.Verdicts.{slacks, meets}
-use Rattle.theory.specs.Claims.{Repeats}
-use Rattle.analysis.specs.declared.answer.Bounds.{Bounds}
-use Rattle.analysis.specs.declared.answer.Itr.{Itr}
-use Rattle.analysis.specs.declared.answer.Slacks.{Slacks}
-use Rattle.analysis.specs.declared.answer.Figures.{Figures}
-use Rattle.analysis.specs.declared.answer.Verdict.{Verdict}
+use Rattle.jobs.specs.declared.{job.Job.Job, set.JobSet.JobSet, refusal.Refusal.the-variants.UnknownAlgorithm, refusal.Check.Check, refusal.Check.the-variants.Passed}
+use Rattle.jobs.specs.{Limits.maxJobs, Refusals.onPass, Jobs.jobsOf, Jobs.setOf, Checks.checkOf, Joins.withChain, Joins.joinCheck}
+use Rattle.theory.specs.{Table.Table, Table.tableOf, Bounds.ert, Bounds.cja, Rounds.Answer, Rounds.roundLimit, Rounds.itr, Verdicts.slacks, Verdicts.meets, Claims.Repeats}
+use Rattle.analysis.specs.declared.{answer.Bounds.Bounds, answer.Itr.Itr, answer.Slacks.Slacks, answer.Figures.Figures, answer.Verdict.Verdict, answer.Admission.Admission}
 use Rattle.analysis.specs.declared.answer.Verdict.the-variants.{Yes, No, Refused}
-use Rattle.analysis.specs.declared.answer.Admission.{Admission}
 
 -- A figure of each job in an answer; none on a refusal.
 abbrev pub eachJob : {A : Type 0} → A → Check → List A → List A

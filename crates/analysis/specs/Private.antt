@@ -1,9 +1,7 @@
 -- What the contracts of private functions speak of; no public promise cites it. Assumes nothing.
 use Rattle.laws.specs.Words.{ℕ, zero, suc, _+_, _*_, _≤_, _<_, max, _≡_, _≢_, cond, _&&_, List, leb, ltb, eqb, getD, tabulate, padded}
 use Rattle.jobs.specs.Limits.{maxJobs, maxRelease, maxTime}
-use Rattle.theory.specs.Table.{Table}
-use Rattle.theory.specs.Bounds.{largestPair}
-use Rattle.theory.specs.Rounds.{overlap}
+use Rattle.theory.specs.{Table.Table, Bounds.largestPair, Rounds.overlap}
 use Rattle.analysis.specs.declared.columns.Columns.{Columns}
 
 -- The table of the jobs whose figures stand in lent columns; the bounds do not read the least times.

@@ -1,7 +1,6 @@
 -- What is proved of decimal digits, for numbers of any size; proofs/Claims.antt has the proof of all. Assumes nothing.
 use Rattle.laws.specs.Words.{ℕ, suc, _-_, _^_, _≤_, _<_, false, List, [], _++_, _≡_, length}
-use Rattle.decimal.specs.Digits.{digitCount, decimal, valueOf}
-use Rattle.decimal.specs.Fields.{maxDigits, digitRun, leadingZero, fieldOf}
+use Rattle.decimal.specs.{Digits.digitCount, Digits.decimal, Digits.valueOf, Fields.maxDigits, Fields.digitRun, Fields.leadingZero, Fields.fieldOf}
 use Rattle.decimal.specs.declared.field.Field.the-variants.{Number}
 
 -- One field for each theorem on digits, counts and reading back.

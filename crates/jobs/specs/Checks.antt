@@ -1,13 +1,10 @@
 -- The checks of a record and of a set. Document 01, numbers 4 to 7, and "Sets handed by value are checked with 4 to 6 record by record, the first
 -- bad record deciding, then 7". Assumes nothing.
 use Rattle.laws.specs.Words.{ℕ, _+_, Bool, cond, _&&_, List, [], _∷_, _++_, length, leb, ltb, eqb, lastOf}
-use Rattle.jobs.specs.declared.job.Job.{Job}
+use Rattle.jobs.specs.declared.{job.Job.Job, refusal.Check.Check}
 use Rattle.jobs.specs.declared.refusal.Refusal.the-variants.{TooManyRecords, OutOfOrder, OutOfLimits, NoRecord}
-use Rattle.jobs.specs.declared.refusal.Check.{Check}
 use Rattle.jobs.specs.declared.refusal.Check.the-variants.{Passed, Refused}
-use Rattle.jobs.specs.Limits.{maxJobs, maxChains, maxRelease, maxPriority, maxTime, maxDeadline}
-use Rattle.jobs.specs.Refusals.{unless, andThen}
-use Rattle.jobs.specs.Jobs.{noJob}
+use Rattle.jobs.specs.{Limits.maxJobs, Limits.maxChains, Limits.maxRelease, Limits.maxPriority, Limits.maxTime, Limits.maxDeadline, Refusals.unless, Refusals.andThen, Jobs.noJob}
 
 -- Whether chain and job come next in order, each counted from 1; n records come before this one, the last of which is `last`.
 unfoldable pub isNext : ℕ → Job → Job → Bool

@@ -1,13 +1,8 @@
 -- A further chain joins a set. Document 01, "Admission joins a chain as the highest-numbered one", and the last paragraph of the refusals.
 -- Assumes nothing.
 use Rattle.laws.specs.Words.{ℕ, _+_, List, [], _∷_, _++_, lastOf}
-use Rattle.jobs.specs.declared.job.Job.{Job}
-use Rattle.jobs.specs.declared.set.JobSet.{JobSet}
-use Rattle.jobs.specs.declared.refusal.Check.{Check}
-use Rattle.jobs.specs.declared.join.Joined.{Joined}
-use Rattle.jobs.specs.Refusals.{onPass, andThen}
-use Rattle.jobs.specs.Jobs.{noJob, jobsOf, setOf}
-use Rattle.jobs.specs.Checks.{recordsCheck, anyRecord}
+use Rattle.jobs.specs.declared.{job.Job.Job, set.JobSet.JobSet, refusal.Check.Check, join.Joined.Joined}
+use Rattle.jobs.specs.{Refusals.onPass, Refusals.andThen, Jobs.noJob, Jobs.jobsOf, Jobs.setOf, Checks.recordsCheck, Checks.anyRecord}
 
 -- A job under another chain and job number, with its values as they were.
 abbrev pub renumbered : ℕ → ℕ → Job → Job

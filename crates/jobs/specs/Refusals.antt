@@ -1,8 +1,7 @@
 -- The refusals and their numbers, and checks in sequence. Document 01, "Numbers of refusal, in checking order". Assumes nothing.
 use Rattle.laws.specs.Words.{ℕ, Bool, true, false}
-use Rattle.jobs.specs.declared.refusal.Refusal.{Refusal}
+use Rattle.jobs.specs.declared.{refusal.Refusal.Refusal, refusal.Check.Check}
 use Rattle.jobs.specs.declared.refusal.Refusal.the-variants.{TextTooLong, NotHeader, MalformedLine, TooManyRecords, OutOfOrder, OutOfLimits, NoRecord, RunningTimes, ShortBuffer, UnknownAlgorithm, ImpossibleState}
-use Rattle.jobs.specs.declared.refusal.Check.{Check}
 use Rattle.jobs.specs.declared.refusal.Check.the-variants.{Passed, Refused}
 
 -- The number of a refusal.

@@ -1,16 +1,10 @@
 -- Tables with known results: document 01, P1 to P8, and Tables 1 to 3 of source document 004 for P1. A deadline, priority or least time that it does
 -- not give is chosen here; of runs it gives the rows of P2, a completion of P3 and the end of P4, and the rest is worked out by hand. Assumes nothing.
 use Rattle.laws.specs.Words.{ℕ, Bool, true, false, List, [], _∷_, _++_, map, ℤ, pos, negℤ, length, getD, tabulate}
-use Rattle.jobs.specs.declared.job.Job.{Job}
-use Rattle.jobs.specs.declared.refusal.Check.{Check}
-use Rattle.jobs.specs.declared.refusal.Check.the-variants.{Passed}
+use Rattle.jobs.specs.declared.{job.Job.Job, refusal.Check.Check, refusal.Check.the-variants.Passed}
 use Rattle.jobs.specs.Checks.{checkOf}
-use Rattle.theory.specs.Table.{tableOf}
-use Rattle.theory.specs.Bounds.{interferenceAt, ert, cja}
-use Rattle.theory.specs.Rounds.{itr}
-use Rattle.theory.specs.Verdicts.{slacks, meets}
-use Rattle.machine.specs.Runs.{runOf}
-use Rattle.machine.specs.Traces.{rows, traced}
+use Rattle.theory.specs.{Table.tableOf, Bounds.interferenceAt, Bounds.ert, Bounds.cja, Rounds.itr, Verdicts.slacks, Verdicts.meets}
+use Rattle.machine.specs.{Runs.runOf, Traces.rows, Traces.traced}
 
 -- Running times and what is known of the run with them: its check, each job's completion in table order, its end, the rows of its trace.
 pub record KnownRun : Type 0 where

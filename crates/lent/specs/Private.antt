@@ -3,10 +3,8 @@
 use Rattle.laws.specs.Words.{ℕ, _-_, min, Bool, true, cond, not, _&&_, List, leb, ltb, eqb}
 use Rattle.jobs.specs.declared.job.Job.{Job}
 use Rattle.jobs.specs.Jobs.{urgencyOf}
-use Rattle.machine.specs.declared.state.State.{State}
-use Rattle.machine.specs.declared.pick.Best.{Best}
-use Rattle.machine.specs.States.{complete}
-use Rattle.machine.specs.Pick.{better}
+use Rattle.machine.specs.declared.{state.State.State, pick.Best.Best}
+use Rattle.machine.specs.{States.complete, Pick.better}
 use Rattle.lent.specs.declared.scan.Scan.{Scan}
 
 -- A record is of the chain of the one before it.

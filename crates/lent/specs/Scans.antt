@@ -1,12 +1,10 @@
 -- The scan over lent job records. Document 01, "The scan that picks the next job goes over the lent job records and changes none". Assumes nothing.
 use Rattle.laws.specs.Words.{ℕ, zero, suc, _-_, false, List, leb}
 use Rattle.jobs.specs.declared.job.Job.{Job}
-use Rattle.theory.specs.Table.{tableOf}
-use Rattle.theory.specs.Runs.{idle}
+use Rattle.theory.specs.{Table.tableOf, Runs.idle}
 use Rattle.machine.specs.declared.state.State.{State}
 use Rattle.lent.specs.declared.scan.Scan.{Scan}
-use Rattle.machine.specs.States.{complete}
-use Rattle.machine.specs.Pick.{pickUpTo, bestOf}
+use Rattle.machine.specs.{States.complete, Pick.pickUpTo, Pick.bestOf}
 
 -- What a scan of the first n records knows: the pick of a step and the figures of the last record, with 0 ticks since a release that is still to come.
 unfoldable pub scanOf : List Job → List ℕ → State → ℕ → Scan

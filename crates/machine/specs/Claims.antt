@@ -1,20 +1,10 @@
 -- What is proved of the machine for every accepted set and running times in range, in proofs/Claims under the name that a comment gives.
 -- Assumes nothing.
 use Rattle.laws.specs.Words.{ℕ, _*_, _≤_, _<_, _≡_, cond, _&&_, List, [], _∷_, leb, ltb, length, getD}
-use Rattle.jobs.specs.declared.job.Job.{Job}
-use Rattle.jobs.specs.declared.refusal.Check.the-variants.{Passed}
-use Rattle.theory.specs.Table.{tableOf}
-use Rattle.theory.specs.Bounds.{boundAt}
-use Rattle.theory.specs.Rounds.{itr}
-use Rattle.theory.specs.Runs.{Entry, idle, runs, Run}
-use Rattle.machine.specs.declared.state.State.{State}
-use Rattle.machine.specs.declared.step.Ticked.the-variants.{Finished}
-use Rattle.machine.specs.declared.trace.Span.{Span}
-use Rattle.machine.specs.States.{lastTime}
-use Rattle.machine.specs.Times.{machineCheck}
-use Rattle.machine.specs.Steps.{tickOf}
-use Rattle.machine.specs.Runs.{entry, entries, finish, completions}
-use Rattle.machine.specs.Traces.{traced}
+use Rattle.jobs.specs.declared.{job.Job.Job, refusal.Check.the-variants.Passed}
+use Rattle.theory.specs.{Table.tableOf, Bounds.boundAt, Rounds.itr, Runs.Entry, Runs.idle, Runs.runs, Runs.Run}
+use Rattle.machine.specs.declared.{state.State.State, step.Ticked.the-variants.Finished, trace.Span.Span}
+use Rattle.machine.specs.{States.lastTime, Times.machineCheck, Steps.tickOf, Runs.entry, Runs.entries, Runs.finish, Runs.completions, Traces.traced}
 
 -- A claim about every set and running times that pass the checks 4 to 8.
 abbrev pub EveryMachine : (List Job → List ℕ → Type 0) → Type 0

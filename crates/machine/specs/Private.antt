@@ -1,17 +1,10 @@
 -- Definitions that only the contracts of private functions use. Assumes nothing.
 use Rattle.laws.specs.Words.{ℕ, zero, suc, _+_, _-_, _≤_, _<_, max, min, _≡_, Bool, cond, _&&_, List, ltb, eqb, length, getD, sumBelow}
-use Rattle.jobs.specs.declared.job.Job.{Job}
-use Rattle.jobs.specs.declared.refusal.Check.the-variants.{Passed}
+use Rattle.jobs.specs.declared.{job.Job.Job, refusal.Check.the-variants.Passed}
 use Rattle.jobs.specs.Limits.{maxJobs, maxTime}
 use Rattle.theory.specs.Table.{Table, tableOf}
-use Rattle.machine.specs.declared.state.State.{State}
-use Rattle.machine.specs.declared.pick.Best.{Best}
-use Rattle.machine.specs.declared.columns.Columns.{Columns}
-use Rattle.machine.specs.declared.trace.Span.{Span}
-use Rattle.machine.specs.declared.trace.Put.{Put}
-use Rattle.machine.specs.States.{lastTime, ready}
-use Rattle.machine.specs.Times.{machineCheck}
-use Rattle.machine.specs.Pick.{better}
+use Rattle.machine.specs.declared.{state.State.State, pick.Best.Best, columns.Columns.Columns, trace.Span.Span, trace.Put.Put}
+use Rattle.machine.specs.{States.lastTime, States.ready, Times.machineCheck, Pick.better}
 
 -- A state by its time and work.
 abbrev pub stateOf : ℕ → List ℕ → State

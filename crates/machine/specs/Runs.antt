@@ -1,16 +1,10 @@
 -- The run from time 0. Document 01, "The machine". Assumes nothing.
 use Rattle.laws.specs.Words.{ℕ, zero, suc, cond, List, replicate, tabulate}
 use Rattle.jobs.specs.declared.job.Job.{Job}
-use Rattle.jobs.specs.Limits.{maxJobs}
-use Rattle.jobs.specs.Refusals.{onPass}
-use Rattle.theory.specs.Table.{Table, tableOf}
-use Rattle.theory.specs.Runs.{Entry, names}
-use Rattle.machine.specs.declared.state.State.{State}
-use Rattle.machine.specs.declared.run.Completed.{Completed}
-use Rattle.machine.specs.States.{lastTime, start}
-use Rattle.machine.specs.Times.{machineCheck}
-use Rattle.machine.specs.Pick.{pick}
-use Rattle.machine.specs.Steps.{next}
+use Rattle.jobs.specs.{Limits.maxJobs, Refusals.onPass}
+use Rattle.theory.specs.{Table.Table, Table.tableOf, Runs.Entry, Runs.names}
+use Rattle.machine.specs.declared.{state.State.State, run.Completed.Completed}
+use Rattle.machine.specs.{States.lastTime, States.start, Times.machineCheck, Pick.pick, Steps.next}
 
 -- The state after n ticks.
 unfoldable pub after : Table → List ℕ → ℕ → State

@@ -1,20 +1,11 @@
 -- One tick on a state that is handed over, with its checks. Document 01, "The machine" and numbers 4 to 8 and 11. Assumes nothing.
 use Rattle.laws.specs.Words.{ℕ, _+_, Bool, cond, _&&_, _||_, List, leb, ltb, eqb, getD, set, everyBelow}
-use Rattle.jobs.specs.declared.job.Job.{Job}
-use Rattle.jobs.specs.declared.refusal.Refusal.the-variants.{ImpossibleState}
-use Rattle.jobs.specs.declared.refusal.Check.{Check}
-use Rattle.jobs.specs.declared.refusal.Check.the-variants.{Passed}
-use Rattle.jobs.specs.Jobs.{jobAt}
-use Rattle.jobs.specs.Refusals.{unless, onPass, andThen}
-use Rattle.theory.specs.Table.{Table, tableOf}
-use Rattle.theory.specs.Runs.{Entry, idle, runs}
-use Rattle.machine.specs.declared.state.State.{State}
-use Rattle.machine.specs.declared.step.Ticked.{Ticked}
+use Rattle.jobs.specs.declared.{job.Job.Job, refusal.Refusal.the-variants.ImpossibleState, refusal.Check.Check, refusal.Check.the-variants.Passed}
+use Rattle.jobs.specs.{Jobs.jobAt, Refusals.unless, Refusals.onPass, Refusals.andThen}
+use Rattle.theory.specs.{Table.Table, Table.tableOf, Runs.Entry, Runs.idle, Runs.runs}
+use Rattle.machine.specs.declared.{state.State.State, step.Ticked.Ticked, step.Stepped.Stepped}
 use Rattle.machine.specs.declared.step.Ticked.the-variants.{Ran, Idle, Finished, Refused as RefusedTick}
-use Rattle.machine.specs.declared.step.Stepped.{Stepped}
-use Rattle.machine.specs.States.{lastTime, allComplete, predecessorComplete}
-use Rattle.machine.specs.Times.{machineCheck}
-use Rattle.machine.specs.Pick.{pick}
+use Rattle.machine.specs.{States.lastTime, States.allComplete, States.predecessorComplete, Times.machineCheck, Pick.pick}
 
 -- The state after a tick with this entry: the time goes up by 1, and so does the work of the job that ran.
 abbrev pub moved : Entry → State → State

@@ -1,11 +1,7 @@
 -- Running times. Document 01, number 8. Assumes nothing.
 use Rattle.laws.specs.Words.{ℕ, Bool, _&&_, List, leb, eqb, length, getD, everyBelow}
-use Rattle.jobs.specs.declared.job.Job.{Job}
-use Rattle.jobs.specs.declared.refusal.Refusal.the-variants.{RunningTimes}
-use Rattle.jobs.specs.declared.refusal.Check.{Check}
-use Rattle.jobs.specs.declared.refusal.Check.the-variants.{Passed}
-use Rattle.jobs.specs.Refusals.{unless, andThen}
-use Rattle.jobs.specs.Checks.{checkOf}
+use Rattle.jobs.specs.declared.{job.Job.Job, refusal.Refusal.the-variants.RunningTimes, refusal.Check.Check, refusal.Check.the-variants.Passed}
+use Rattle.jobs.specs.{Refusals.unless, Refusals.andThen, Checks.checkOf}
 use Rattle.theory.specs.Table.{Table, tableOf}
 
 -- The running time of a job lies from its least to its most.

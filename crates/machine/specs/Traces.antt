@@ -1,19 +1,11 @@
 -- The trace of a run. Document 01, "A trace lists each longest run of one job as chain, job, from, to". Assumes nothing.
 use Rattle.laws.specs.Words.{ℕ, zero, suc, _*_, Bool, cond, _&&_, List, [], _∷_, _++_, leb, eqb, length, patched}
-use Rattle.jobs.specs.declared.job.Job.{Job}
-use Rattle.jobs.specs.declared.refusal.Refusal.the-variants.{ShortBuffer}
-use Rattle.jobs.specs.declared.refusal.Check.{Check}
-use Rattle.jobs.specs.declared.refusal.Check.the-variants.{Passed}
-use Rattle.jobs.specs.Refusals.{unless, onPass, andThen}
-use Rattle.jobs.specs.Jobs.{jobAt}
-use Rattle.theory.specs.Table.{Table, tableOf}
-use Rattle.theory.specs.Runs.{Entry, idle, runs}
-use Rattle.machine.specs.declared.trace.Span.{Span}
-use Rattle.machine.specs.declared.trace.Traced.{Traced}
+use Rattle.jobs.specs.declared.{job.Job.Job, refusal.Refusal.the-variants.ShortBuffer, refusal.Check.Check, refusal.Check.the-variants.Passed}
+use Rattle.jobs.specs.{Refusals.unless, Refusals.onPass, Refusals.andThen, Jobs.jobAt}
+use Rattle.theory.specs.{Table.Table, Table.tableOf, Runs.Entry, Runs.idle, Runs.runs}
+use Rattle.machine.specs.declared.{trace.Span.Span, trace.Traced.Traced}
 use Rattle.machine.specs.declared.trace.Traced.the-variants.{Entries, Refused as RefusedTrace}
-use Rattle.machine.specs.States.{lastTime}
-use Rattle.machine.specs.Times.{machineCheck}
-use Rattle.machine.specs.Runs.{entry}
+use Rattle.machine.specs.{States.lastTime, Times.machineCheck, Runs.entry}
 
 -- Spans, the latest first, after tick n: the job that ran lengthens the latest where that is its own and ends at n, or begins a new one.
 unfoldable pub noted : List Span → ℕ → Entry → List Span

@@ -1,9 +1,7 @@
 -- What is proved of the texts of every accepted set. Assumes nothing.
 use Rattle.laws.specs.Words.{ℕ, _*_, _≤_, _≡_, List, length}
-use Rattle.jobs.specs.declared.job.Job.{Job}
-use Rattle.jobs.specs.declared.refusal.Check.the-variants.{Passed}
-use Rattle.jobs.specs.Limits.{maxJobs}
-use Rattle.jobs.specs.Checks.{checkOf}
+use Rattle.jobs.specs.declared.{job.Job.Job, refusal.Check.the-variants.Passed}
+use Rattle.jobs.specs.{Limits.maxJobs, Checks.checkOf}
 use Rattle.report.specs.Texts.{boundsText, traceText}
 
 -- The length of the buffers that the programs lend.

@@ -1,15 +1,10 @@
 -- Whole texts in a lent buffer. Document 01, "Programs and the C side", and number 9. Assumes nothing.
 use Rattle.laws.specs.Words.{ℕ, cond, List, _++_, map, leb, length, ascii}
 use Rattle.decimal.specs.Writing.{written}
-use Rattle.jobs.specs.declared.job.Job.{Job}
-use Rattle.jobs.specs.declared.refusal.Refusal.the-variants.{ShortBuffer}
-use Rattle.jobs.specs.Refusals.{onPass}
-use Rattle.jobs.specs.Jobs.{jobsOf}
+use Rattle.jobs.specs.declared.{job.Job.Job, refusal.Refusal.the-variants.ShortBuffer}
+use Rattle.jobs.specs.{Refusals.onPass, Jobs.jobsOf}
 use Rattle.table.specs.Tables.{readingOf}
-use Rattle.theory.specs.Table.{tableOf}
-use Rattle.theory.specs.Bounds.{ert, cja}
-use Rattle.theory.specs.Rounds.{itr}
-use Rattle.theory.specs.Verdicts.{slacks}
+use Rattle.theory.specs.{Table.tableOf, Bounds.ert, Bounds.cja, Rounds.itr, Verdicts.slacks}
 use Rattle.machine.specs.Traces.{traced}
 use Rattle.report.specs.declared.written.Written.{Written}
 use Rattle.report.specs.declared.written.Written.the-variants.{Bytes, Refused}

@@ -2,12 +2,9 @@
 use Rattle.laws.specs.Words.{ℕ, _-_, Bool, true, false, cond, List, [], _∷_, length, eqb, padded}
 use Rattle.jobs.specs.declared.refusal.Refusal.the-variants.{MalformedLine}
 use Rattle.jobs.specs.declared.refusal.Check.the-variants.{Passed, Refused}
-use Rattle.table.specs.declared.line.End.{End}
+use Rattle.table.specs.declared.{line.End.End, line.Line.Line}
 use Rattle.table.specs.declared.line.End.the-variants.{Here, Elsewhere}
-use Rattle.table.specs.declared.line.Line.{Line}
-use Rattle.table.specs.Lines.{isBreak, firstLine, afterLine}
-use Rattle.table.specs.Rows.{maxColumns, Row, row, noRow, rowOf}
-use Rattle.table.specs.Tables.{header, same}
+use Rattle.table.specs.{Lines.isBreak, Lines.firstLine, Lines.afterLine, Rows.maxColumns, Rows.Row, Rows.row, Rows.noRow, Rows.rowOf, Tables.header, Tables.same}
 
 -- Whether a text starts with these bytes.
 unfoldable pub startsWith : List ℕ → List ℕ → Bool

@@ -1,15 +1,10 @@
 -- A whole job table. Document 01, "A job table", and numbers 1 to 7. Assumes nothing.
 use Rattle.laws.specs.Words.{ℕ, Bool, true, false, cond, List, [], _∷_, _++_, length, getD, leb, eqb, lastOf, ascii}
-use Rattle.jobs.specs.declared.job.Job.{Job}
-use Rattle.jobs.specs.declared.refusal.Refusal.{Refusal}
+use Rattle.jobs.specs.declared.{job.Job.Job, refusal.Refusal.Refusal, refusal.Check.the-variants.Refused}
 use Rattle.jobs.specs.declared.refusal.Refusal.the-variants.{TextTooLong, NotHeader, MalformedLine}
-use Rattle.jobs.specs.declared.refusal.Check.the-variants.{Refused}
-use Rattle.jobs.specs.Refusals.{onPass}
-use Rattle.jobs.specs.Jobs.{noJob, setOf}
-use Rattle.jobs.specs.Checks.{recordCheck, anyRecord}
+use Rattle.jobs.specs.{Refusals.onPass, Jobs.noJob, Jobs.setOf, Checks.recordCheck, Checks.anyRecord}
 use Rattle.table.specs.declared.reading.Reading.{Reading}
-use Rattle.table.specs.Lines.{linesOf}
-use Rattle.table.specs.Rows.{maxColumns, Row, row, noRow, rowOf}
+use Rattle.table.specs.{Lines.linesOf, Rows.maxColumns, Rows.Row, Rows.row, Rows.noRow, Rows.rowOf}
 
 -- The first line.
 abbrev pub header : List ℕ

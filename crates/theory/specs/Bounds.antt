@@ -1,7 +1,6 @@
 -- The bounds ERT and CJA, each a list with one bound for each job, in table order. Document 01, "Bounds". Assumes nothing.
 use Rattle.laws.specs.Words.{ℕ, zero, suc, _+_, max, min, Bool, true, cond, List, leb, eqb, getD, tabulate}
-use Rattle.theory.specs.Table.{Table, joined}
-use Rattle.theory.specs.Interference.{interference}
+use Rattle.theory.specs.{Table.Table, Table.joined, Interference.interference}
 
 -- The bound at a place, 0 beyond the list.
 abbrev pub boundAt : List ℕ → ℕ → ℕ

@@ -1,7 +1,6 @@
 -- ITR and its rounds. Document 01, "Bounds". Assumes nothing.
 use Rattle.laws.specs.Words.{ℕ, zero, suc, _+_, _*_, _-_, Bool, true, false, _&&_, List, ltb, eqb, tabulate}
-use Rattle.theory.specs.Table.{Table}
-use Rattle.theory.specs.Bounds.{boundAt, ertRule, cjaWith}
+use Rattle.theory.specs.{Table.Table, Bounds.boundAt, Bounds.ertRule, Bounds.cjaWith}
 
 -- The start of ITR: the ERT rule with interference 0.
 unfoldable pub itrStart : Table → List ℕ

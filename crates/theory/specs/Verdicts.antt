@@ -2,9 +2,7 @@
 use Rattle.laws.specs.Words.{ℕ, zero, suc, Bool, true, _&&_, List, leb, ℤ, pos, _-ℤ_, length, tabulate}
 use Rattle.jobs.specs.declared.job.Job.{Job}
 use Rattle.jobs.specs.Jobs.{jobAt}
-use Rattle.theory.specs.Table.{tableOf}
-use Rattle.theory.specs.Bounds.{boundAt}
-use Rattle.theory.specs.Rounds.{itr}
+use Rattle.theory.specs.{Table.tableOf, Bounds.boundAt, Rounds.itr}
 
 -- The deadline less the bound, below zero where the bound is later.
 abbrev pub slack : ℕ → ℕ → ℤ
