@@ -1,11 +1,10 @@
 -- The answers of the public functions. Document 01, "Bounds", the refusals of a set and of admission, and number 10. Unused places of an answer are 0.
 -- Assumes nothing.
 use Rattle.laws.specs.Words.{ℕ, _≤_, _<_, max, _≡_, Bool, true, false, cond, List, [], eqb, ℤ, pos, length, padded}
-use Rattle.jobs.specs.declared.{job.Job.Job, set.JobSet.JobSet, refusal.Refusal.the-variants.UnknownAlgorithm, refusal.Check.Check, refusal.Check.the-variants.Passed}
+use Rattle.jobs.specs.declared.{job.Job.Job, set.JobSet.JobSet, refusal.Refusal.Refusal, refusal.Check.Check}
 use Rattle.jobs.specs.{Limits.maxJobs, Refusals.onPass, Jobs.jobsOf, Jobs.setOf, Checks.checkOf, Joins.withChain, Joins.joinCheck}
 use Rattle.theory.specs.{Table.Table, Table.tableOf, Bounds.ert, Bounds.cja, Rounds.Answer, Rounds.roundLimit, Rounds.itr, Verdicts.slacks, Verdicts.meets, Claims.Repeats}
 use Rattle.analysis.specs.declared.{answer.Bounds.Bounds, answer.Itr.Itr, answer.Slacks.Slacks, answer.Figures.Figures, answer.Verdict.Verdict, answer.Admission.Admission}
-use Rattle.analysis.specs.declared.answer.Verdict.the-variants.{Yes, No, Refused}
 
 -- A figure of each job in an answer; none on a refusal.
 abbrev pub eachJob : {A : Type 0} → A → Check → List A → List A
@@ -56,8 +55,8 @@ figuresOf set =
 
 -- Yes where all deadlines are met.
 abbrev pub verdictIs : Bool → Verdict
-verdictIs true = Yes
-verdictIs false = No
+verdictIs true = Verdict.Yes
+verdictIs false = Verdict.No
 
 -- The verdict on accepted jobs by 1 ERT, 2 CJA or 3 ITR: whether each bound is at or before its job's deadline.
 unfoldable pub verdictBy : List Job → ℕ → Verdict
@@ -65,23 +64,23 @@ verdictBy js algorithm =
     cond (eqb algorithm 1) (verdictIs (meets js (ert (tableOf js)) (length js)))
     (cond (eqb algorithm 2) (verdictIs (meets js (cja (tableOf js)) (length js)))
     (cond (eqb algorithm 3) (verdictIs (meets js (itr (tableOf js) .bounds) (length js)))
-    (Refused UnknownAlgorithm)))
+    (Verdict.Refused Refusal.UnknownAlgorithm)))
 
 -- The verdict on a set; its own refusals come first.
 unfoldable pub verdictOf : JobSet → ℕ → Verdict
-verdictOf set algorithm = onPass (checkOf (jobsOf set)) Refused (verdictBy (jobsOf set) algorithm)
+verdictOf set algorithm = onPass (checkOf (jobsOf set)) Verdict.Refused (verdictBy (jobsOf set) algorithm)
 
 -- The answer to admission: only a yes lets the joined set in.
 abbrev pub admitted : Verdict → JobSet → JobSet → Admission
-admitted Yes old joined = record { verdict = Yes; set = joined }
-admitted No old joined = record { verdict = No; set = old }
-admitted (Refused refusal) old joined = record { verdict = Refused refusal; set = old }
+admitted Verdict.Yes old joined = record { verdict = Verdict.Yes; set = joined }
+admitted Verdict.No old joined = record { verdict = Verdict.No; set = old }
+admitted (Verdict.Refused refusal) old joined = record { verdict = Verdict.Refused refusal; set = old }
 
 -- A further chain is admitted where the verdict on the joined jobs is yes; what refuses the joining comes before number 10.
 unfoldable pub admissionOf : JobSet → JobSet → ℕ → Admission
 admissionOf old new algorithm =
     let joined = withChain (jobsOf old) (jobsOf new) in
-    admitted (onPass (joinCheck (jobsOf old) (jobsOf new)) Refused (verdictBy joined algorithm)) old (setOf joined)
+    admitted (onPass (joinCheck (jobsOf old) (jobsOf new)) Verdict.Refused (verdictBy joined algorithm)) old (setOf joined)
 
 -- The number of rounds in the ITR answer of n jobs: it is that of the first round whose bounds equal the previous ones, it is at most
 -- n × n × (n − 1) + 2, and at most n where there is a job.
@@ -93,4 +92,4 @@ pub record Counted (t : Table) (rounds : ℕ) : Type 0 where
 
 -- `itr-rounds`: what the number of rounds is, for every accepted set.
 abbrev pub RoundsCounted : Type 0
-RoundsCounted = (set : JobSet) → checkOf (jobsOf set) ≡ Passed → Counted (tableOf (jobsOf set)) (itrOf set .rounds)
+RoundsCounted = (set : JobSet) → checkOf (jobsOf set) ≡ Check.Passed → Counted (tableOf (jobsOf set)) (itrOf set .rounds)

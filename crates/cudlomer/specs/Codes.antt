@@ -5,10 +5,8 @@ use Rattle.jobs.specs.{Refusals.numberOf, Refusals.onPass, Jobs.jobsOf}
 use Rattle.table.specs.Tables.{readingOf}
 use Rattle.theory.specs.{Table.tableOf, Rounds.itr}
 use Rattle.analysis.specs.declared.answer.Verdict.{Verdict}
-use Rattle.analysis.specs.declared.answer.Verdict.the-variants.{Yes, No, Refused}
 use Rattle.analysis.specs.Answers.{verdictBy}
 use Rattle.report.specs.declared.written.Written.{Written}
-use Rattle.report.specs.declared.written.Written.the-variants.{Bytes, Refused as Unwritten}
 
 -- The number of the refusal, negated.
 abbrev pub refusalCode : Refusal → ℤ
@@ -16,18 +14,18 @@ refusalCode refusal = negℤ (pos (numberOf refusal))
 
 -- The bytes written, or that.
 abbrev pub writtenCode : Written → ℤ
-writtenCode (Bytes n) = pos n
-writtenCode (Unwritten refusal) = refusalCode refusal
+writtenCode (Written.Bytes n) = pos n
+writtenCode (Written.Refused refusal) = refusalCode refusal
 
 -- 1 for yes, 0 for no, or that.
 abbrev pub verdictCode : Verdict → ℤ
-verdictCode Yes = pos 1
-verdictCode No = pos 0
-verdictCode (Refused refusal) = refusalCode refusal
+verdictCode Verdict.Yes = pos 1
+verdictCode Verdict.No = pos 0
+verdictCode (Verdict.Refused refusal) = refusalCode refusal
 
 -- The verdict on a table's text; the refusals of reading come first.
 unfoldable pub verdictOfTable : List ℕ → ℕ → Verdict
-verdictOfTable text algorithm = let reading = readingOf text in onPass (reading .check) Refused (verdictBy (jobsOf (reading .set)) algorithm)
+verdictOfTable text algorithm = let reading = readingOf text in onPass (reading .check) Verdict.Refused (verdictBy (jobsOf (reading .set)) algorithm)
 
 -- The rounds of ITR on a table's text, or the refusal of reading.
 unfoldable pub roundsOfTable : List ℕ → ℤ

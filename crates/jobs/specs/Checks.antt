@@ -1,9 +1,7 @@
 -- The checks of a record and of a set. Document 01, numbers 4 to 7, and "Sets handed by value are checked with 4 to 6 record by record, the first
 -- bad record deciding, then 7". Assumes nothing.
 use Rattle.laws.specs.Words.{ℕ, _+_, Bool, cond, _&&_, List, [], _∷_, _++_, length, leb, ltb, eqb, lastOf}
-use Rattle.jobs.specs.declared.{job.Job.Job, refusal.Check.Check}
-use Rattle.jobs.specs.declared.refusal.Refusal.the-variants.{TooManyRecords, OutOfOrder, OutOfLimits, NoRecord}
-use Rattle.jobs.specs.declared.refusal.Check.the-variants.{Passed, Refused}
+use Rattle.jobs.specs.declared.{job.Job.Job, refusal.Check.Check, refusal.Refusal.Refusal}
 use Rattle.jobs.specs.{Limits.maxJobs, Limits.maxChains, Limits.maxRelease, Limits.maxPriority, Limits.maxTime, Limits.maxDeadline, Refusals.unless, Refusals.andThen, Jobs.noJob}
 
 -- Whether chain and job come next in order, each counted from 1; n records come before this one, the last of which is `last`.
@@ -27,22 +25,22 @@ inLimits j =
 -- 4 to 6 for one record, in their order.
 unfoldable pub recordCheck : ℕ → Job → Job → Check
 recordCheck n last j =
-    unless (ltb n maxJobs) TooManyRecords
-    (unless (isNext n last j) OutOfOrder
-    (unless (inLimits j) OutOfLimits
-    Passed))
+    unless (ltb n maxJobs) Refusal.TooManyRecords
+    (unless (isNext n last j) Refusal.OutOfOrder
+    (unless (inLimits j) Refusal.OutOfLimits
+    Check.Passed))
 
 -- 4 to 6 for each record in turn, after the records that come before.
 unfoldable pub recordsCheck : List Job → List Job → Check
-recordsCheck before [] = Passed
+recordsCheck before [] = Check.Passed
 recordsCheck before (j ∷ js) =
     let later = recordsCheck (before ++ (j ∷ [])) js in
     andThen (recordCheck (length before) (lastOf noJob before) j) later
 
 -- 7.
 abbrev pub anyRecord : List Job → Check
-anyRecord [] = Refused NoRecord
-anyRecord (j ∷ js) = Passed
+anyRecord [] = Check.Refused Refusal.NoRecord
+anyRecord (j ∷ js) = Check.Passed
 
 -- The whole check: a set is accepted where this passes.
 unfoldable pub checkOf : List Job → Check

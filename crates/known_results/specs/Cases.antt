@@ -1,7 +1,7 @@
 -- Tables with known results: document 01, P1 to P8, and Tables 1 to 3 of source document 004 for P1. A deadline, priority or least time that it does
 -- not give is chosen here; of runs it gives the rows of P2, a completion of P3 and the end of P4, and the rest is worked out by hand. Assumes nothing.
 use Rattle.laws.specs.Words.{ℕ, Bool, true, false, List, [], _∷_, _++_, map, ℤ, pos, negℤ, length, getD, tabulate}
-use Rattle.jobs.specs.declared.{job.Job.Job, refusal.Check.Check, refusal.Check.the-variants.Passed}
+use Rattle.jobs.specs.declared.{job.Job.Job, refusal.Check.Check}
 use Rattle.jobs.specs.Checks.{checkOf}
 use Rattle.theory.specs.{Table.tableOf, Bounds.interferenceAt, Bounds.ert, Bounds.cja, Rounds.itr, Verdicts.slacks, Verdicts.meets}
 use Rattle.machine.specs.{Runs.runOf, Traces.rows, Traces.traced}
@@ -76,7 +76,7 @@ abbrev pub accepted : List Known → ℕ → Bool → List KnownRun → Case
 accepted jobs rounds verdict runs =
     record {
       jobs = map (λ (j : Known). j .0) jobs;
-      check = Passed;
+      check = Check.Passed;
       releases = map (λ (j : Known). j .1) jobs;
       interferences = map (λ (j : Known). j .2) jobs;
       ertBounds = map (λ (j : Known). j .3) jobs;
@@ -90,7 +90,7 @@ accepted jobs rounds verdict runs =
 
 -- A run that is not refused: running times, completions, end, rows of the trace.
 abbrev pub run : List ℕ → List ℕ → ℕ → List ℕ → KnownRun
-run times completions end rows = record { times = times; check = Passed; completions = completions; end = end; rows = rows }
+run times completions end rows = record { times = times; check = Check.Passed; completions = completions; end = end; rows = rows }
 
 -- A row of a trace.
 abbrev pub row : ℕ → ℕ → ℕ → ℕ → List ℕ

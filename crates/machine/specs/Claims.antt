@@ -1,14 +1,14 @@
 -- What is proved of the machine for every accepted set and running times in range, in proofs/Claims under the name that a comment gives.
 -- Assumes nothing.
 use Rattle.laws.specs.Words.{ℕ, _*_, _≤_, _<_, _≡_, cond, _&&_, List, [], _∷_, leb, ltb, length, getD}
-use Rattle.jobs.specs.declared.{job.Job.Job, refusal.Check.the-variants.Passed}
+use Rattle.jobs.specs.declared.{job.Job.Job, refusal.Check.Check}
 use Rattle.theory.specs.{Table.tableOf, Bounds.boundAt, Rounds.itr, Runs.Entry, Runs.idle, Runs.runs, Runs.Run}
-use Rattle.machine.specs.declared.{state.State.State, step.Ticked.the-variants.Finished, trace.Span.Span}
+use Rattle.machine.specs.declared.{state.State.State, step.Ticked.Ticked, trace.Span.Span}
 use Rattle.machine.specs.{States.lastTime, Times.machineCheck, Steps.tickOf, Runs.entry, Runs.entries, Runs.finish, Runs.completions, Traces.traced}
 
 -- A claim about every set and running times that pass the checks 4 to 8.
 abbrev pub EveryMachine : (List Job → List ℕ → Type 0) → Type 0
-EveryMachine Claim = (js : List Job) (times : List ℕ) → machineCheck js times ≡ Passed → Claim js times
+EveryMachine Claim = (js : List Job) (times : List ℕ) → machineCheck js times ≡ Check.Passed → Claim js times
 
 -- All jobs have done their running times.
 abbrev pub AllDone : List Job → List ℕ → State → Type 0
@@ -21,8 +21,8 @@ pub record Ends (js : List Job) (times : List ℕ) : Type 0 where
 
 -- `finished-when`: a tick says "finished" exactly when all work is done, in any state.
 pub record FinishedWhen (js : List Job) (times : List ℕ) : Type 0 where
-  pub only : (s : State) → tickOf js times s .ticked ≡ Finished → AllDone js times s
-  pub always : (s : State) → AllDone js times s → tickOf js times s .ticked ≡ Finished
+  pub only : (s : State) → tickOf js times s .ticked ≡ Ticked.Finished → AllDone js times s
+  pub always : (s : State) → AllDone js times s → tickOf js times s .ticked ≡ Ticked.Finished
 
 -- `machine-legal`: the machine's entries are a run of demand 3 at every length, with the effective releases.
 abbrev pub Demanded : List Job → List ℕ → Type 0

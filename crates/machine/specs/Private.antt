@@ -1,6 +1,6 @@
 -- Definitions that only the contracts of private functions use. Assumes nothing.
 use Rattle.laws.specs.Words.{ℕ, zero, suc, _+_, _-_, _≤_, _<_, max, min, _≡_, Bool, cond, _&&_, List, ltb, eqb, length, getD, sumBelow}
-use Rattle.jobs.specs.declared.{job.Job.Job, refusal.Check.the-variants.Passed}
+use Rattle.jobs.specs.declared.{job.Job.Job, refusal.Check.Check}
 use Rattle.jobs.specs.Limits.{maxJobs, maxTime}
 use Rattle.theory.specs.Table.{Table, tableOf}
 use Rattle.machine.specs.declared.{state.State.State, pick.Best.Best, columns.Columns.Columns, trace.Span.Span, trace.Put.Put}
@@ -48,7 +48,7 @@ sumOf numbers n = sumBelow n (λ i. getD numbers i 0)
 
 -- A set's columns, and running times that have passed with it.
 pub record Prepared (js : List Job) (columns : Columns) (times : List ℕ) : Type 0 where
-  pub checked : machineCheck js times ≡ Passed
+  pub checked : machineCheck js times ≡ Check.Passed
   pub shown : Shown (tableOf js) columns (length js)
 
 -- Where a tick of the job at u goes in a trace of n entries whose last is given.

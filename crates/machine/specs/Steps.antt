@@ -1,10 +1,9 @@
 -- One tick on a state that is handed over, with its checks. Document 01, "The machine" and numbers 4 to 8 and 11. Assumes nothing.
 use Rattle.laws.specs.Words.{ℕ, _+_, Bool, cond, _&&_, _||_, List, leb, ltb, eqb, getD, set, everyBelow}
-use Rattle.jobs.specs.declared.{job.Job.Job, refusal.Refusal.the-variants.ImpossibleState, refusal.Check.Check, refusal.Check.the-variants.Passed}
+use Rattle.jobs.specs.declared.{job.Job.Job, refusal.Refusal.Refusal, refusal.Check.Check}
 use Rattle.jobs.specs.{Jobs.jobAt, Refusals.unless, Refusals.onPass, Refusals.andThen}
 use Rattle.theory.specs.{Table.Table, Table.tableOf, Runs.Entry, Runs.idle, Runs.runs}
 use Rattle.machine.specs.declared.{state.State.State, step.Ticked.Ticked, step.Stepped.Stepped}
-use Rattle.machine.specs.declared.step.Ticked.the-variants.{Ran, Idle, Finished, Refused as RefusedTick}
 use Rattle.machine.specs.{States.lastTime, States.allComplete, States.predecessorComplete, Times.machineCheck, Pick.pick}
 
 -- The state after a tick with this entry: the time goes up by 1, and so does the work of the job that ran.
@@ -18,15 +17,15 @@ next t times s = cond (allComplete times (s .work) (t .count)) s (moved (pick t 
 
 -- What a tick with this entry answers: the chain and job that ran, or "idle".
 abbrev pub ranAs : List Job → Entry → Ticked
-ranAs js idle = Idle
-ranAs js (runs u) = Ran (jobAt js u .chain) (jobAt js u .job)
+ranAs js idle = Ticked.Idle
+ranAs js (runs u) = Ticked.Ran (jobAt js u .chain) (jobAt js u .job)
 
 -- The answer of a tick, "finished" where all jobs are complete before it, and the state after it.
 unfoldable pub tickOf : List Job → List ℕ → State → Stepped
 tickOf js times s =
     let t = tableOf js in
     record {
-      ticked = cond (allComplete times (s .work) (t .count)) Finished (ranAs js (pick t times s));
+      ticked = cond (allComplete times (s .work) (t .count)) Ticked.Finished (ranAs js (pick t times s));
       state = next t times s;
     }
 
@@ -38,7 +37,7 @@ possible t times s u =
 
 -- Number 11: the time is beyond its limit, or the work of some job is not possible.
 unfoldable pub stateCheck : Table → List ℕ → State → Check
-stateCheck t times s = unless (leb (s .time) lastTime && everyBelow (t .count) (possible t times s)) ImpossibleState Passed
+stateCheck t times s = unless (leb (s .time) lastTime && everyBelow (t .count) (possible t times s)) Refusal.ImpossibleState Check.Passed
 
 -- Numbers 4 to 7, then 8, then 11.
 unfoldable pub stepCheck : List Job → List ℕ → State → Check
@@ -46,4 +45,4 @@ stepCheck js times s = andThen (machineCheck js times) (stateCheck (tableOf js) 
 
 -- The answer and the state after a tick, or the refusal and the state as it was.
 unfoldable pub stepOf : List Job → List ℕ → State → Stepped
-stepOf js times s = onPass (stepCheck js times s) (λ refusal. record { ticked = RefusedTick refusal; state = s }) (tickOf js times s)
+stepOf js times s = onPass (stepCheck js times s) (λ refusal. record { ticked = Ticked.Refused refusal; state = s }) (tickOf js times s)

@@ -1,6 +1,6 @@
 -- Running times. Document 01, number 8. Assumes nothing.
 use Rattle.laws.specs.Words.{ℕ, Bool, _&&_, List, leb, eqb, length, getD, everyBelow}
-use Rattle.jobs.specs.declared.{job.Job.Job, refusal.Refusal.the-variants.RunningTimes, refusal.Check.Check, refusal.Check.the-variants.Passed}
+use Rattle.jobs.specs.declared.{job.Job.Job, refusal.Refusal.Refusal, refusal.Check.Check}
 use Rattle.jobs.specs.{Refusals.unless, Refusals.andThen, Checks.checkOf}
 use Rattle.theory.specs.Table.{Table, tableOf}
 
@@ -14,4 +14,4 @@ timesFit t times = eqb (length times) (t .count) && everyBelow (t .count) (inRan
 
 -- What the machine's operations check of a set and its running times: 4 to 7, then 8.
 unfoldable pub machineCheck : List Job → List ℕ → Check
-machineCheck js times = andThen (checkOf js) (unless (timesFit (tableOf js) times) RunningTimes Passed)
+machineCheck js times = andThen (checkOf js) (unless (timesFit (tableOf js) times) Refusal.RunningTimes Check.Passed)

@@ -1,10 +1,9 @@
 -- The trace of a run. Document 01, "A trace lists each longest run of one job as chain, job, from, to". Assumes nothing.
 use Rattle.laws.specs.Words.{ℕ, zero, suc, _*_, Bool, cond, _&&_, List, [], _∷_, _++_, leb, eqb, length, patched}
-use Rattle.jobs.specs.declared.{job.Job.Job, refusal.Refusal.the-variants.ShortBuffer, refusal.Check.Check, refusal.Check.the-variants.Passed}
+use Rattle.jobs.specs.declared.{job.Job.Job, refusal.Refusal.Refusal, refusal.Check.Check}
 use Rattle.jobs.specs.{Refusals.unless, Refusals.onPass, Refusals.andThen, Jobs.jobAt}
 use Rattle.theory.specs.{Table.Table, Table.tableOf, Runs.Entry, Runs.idle, Runs.runs}
 use Rattle.machine.specs.declared.{trace.Span.Span, trace.Traced.Traced}
-use Rattle.machine.specs.declared.trace.Traced.the-variants.{Entries, Refused as RefusedTrace}
 use Rattle.machine.specs.{States.lastTime, Times.machineCheck, Runs.entry}
 
 -- Spans, the latest first, after tick n: the job that ran lengthens the latest where that is its own and ends at n, or begins a new one.
@@ -36,7 +35,7 @@ roomFor js room = leb (8 * length js) room
 
 -- Numbers 4 to 8, then 9.
 unfoldable pub traceCheck : List Job → List ℕ → ℕ → Check
-traceCheck js times room = andThen (machineCheck js times) (unless (roomFor js room) ShortBuffer Passed)
+traceCheck js times room = andThen (machineCheck js times) (unless (roomFor js room) Refusal.ShortBuffer Check.Passed)
 
 -- The spans of the whole run.
 abbrev pub traced : List Job → List ℕ → List Span
@@ -44,7 +43,7 @@ traced js times = spans (tableOf js) times lastTime
 
 -- The answer of a trace: how many entries it has, or the refusal.
 unfoldable pub traceOf : List Job → List ℕ → ℕ → Traced
-traceOf js times room = onPass (traceCheck js times room) RefusedTrace (Entries (length (traced js times)))
+traceOf js times room = onPass (traceCheck js times room) Traced.Refused (Traced.Entries (length (traced js times)))
 
 -- What a trace leaves in the lent buffer: its rows from the start on and what it held beyond, or on a refusal all as it was.
 unfoldable pub tracedIn : List Job → List ℕ → List ℕ → List ℕ

@@ -1,6 +1,6 @@
 -- What is proved of the texts of every accepted set. Assumes nothing.
 use Rattle.laws.specs.Words.{ℕ, _*_, _≤_, _≡_, List, length}
-use Rattle.jobs.specs.declared.{job.Job.Job, refusal.Check.the-variants.Passed}
+use Rattle.jobs.specs.declared.{job.Job.Job, refusal.Check.Check}
 use Rattle.jobs.specs.{Limits.maxJobs, Checks.checkOf}
 use Rattle.report.specs.Texts.{boundsText, traceText}
 
@@ -15,4 +15,4 @@ pub record Fits (js : List Job) : Type 0 where
 
 -- `texts-fit`: so no text is refused with 9 in such a buffer.
 abbrev pub TextsFit : Type 0
-TextsFit = (js : List Job) → checkOf js ≡ Passed → Fits js
+TextsFit = (js : List Job) → checkOf js ≡ Check.Passed → Fits js

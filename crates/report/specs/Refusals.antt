@@ -4,7 +4,6 @@ use Rattle.decimal.specs.{Digits.decimal, Writing.written, Writing.writtenLengt
 use Rattle.jobs.specs.declared.refusal.Refusal.{Refusal}
 use Rattle.jobs.specs.Refusals.{numberOf}
 use Rattle.report.specs.declared.written.Written.{Written}
-use Rattle.report.specs.declared.written.Written.the-variants.{Bytes, Refused}
 use Rattle.report.specs.Rows.{lineEnd}
 
 -- `refused,` and the number, with CR LF.
@@ -13,10 +12,10 @@ refusedText refusal = ascii "refused," ++ decimal (numberOf refusal) ++ lineEnd
 
 -- How many bytes of a buffer a program prints: the text in it, or the line of a refusal.
 abbrev pub printLength : Written → List ℕ → ℕ
-printLength (Bytes n) buffer = n
-printLength (Refused refusal) buffer = writtenLength (refusedText refusal) buffer
+printLength (Written.Bytes n) buffer = n
+printLength (Written.Refused refusal) buffer = writtenLength (refusedText refusal) buffer
 
 -- The buffer that it prints them from.
 abbrev pub printLeft : Written → List ℕ → List ℕ
-printLeft (Bytes n) buffer = buffer
-printLeft (Refused refusal) buffer = written (refusedText refusal) buffer
+printLeft (Written.Bytes n) buffer = buffer
+printLeft (Written.Refused refusal) buffer = written (refusedText refusal) buffer

@@ -1,13 +1,12 @@
 -- Whole texts in a lent buffer. Document 01, "Programs and the C side", and number 9. Assumes nothing.
 use Rattle.laws.specs.Words.{ℕ, cond, List, _++_, map, leb, length, ascii}
 use Rattle.decimal.specs.Writing.{written}
-use Rattle.jobs.specs.declared.{job.Job.Job, refusal.Refusal.the-variants.ShortBuffer}
+use Rattle.jobs.specs.declared.{job.Job.Job, refusal.Refusal.Refusal}
 use Rattle.jobs.specs.{Refusals.onPass, Jobs.jobsOf}
 use Rattle.table.specs.Tables.{readingOf}
 use Rattle.theory.specs.{Table.tableOf, Bounds.ert, Bounds.cja, Rounds.itr, Verdicts.slacks}
 use Rattle.machine.specs.Traces.{traced}
 use Rattle.report.specs.declared.written.Written.{Written}
-use Rattle.report.specs.declared.written.Written.the-variants.{Bytes, Refused}
 use Rattle.report.specs.Rows.{boundsRows, spansText}
 
 -- The first line of the bounds text.
@@ -34,11 +33,11 @@ traceText js = traceHeader ++ spansText js (traced js (mostTimes js))
 
 -- How many bytes a text takes in a buffer, or refusal 9.
 unfoldable pub answerTo : List ℕ → List ℕ → Written
-answerTo text buffer = cond (leb (length text) (length buffer)) (Bytes (length text)) (Refused ShortBuffer)
+answerTo text buffer = cond (leb (length text) (length buffer)) (Written.Bytes (length text)) (Written.Refused Refusal.ShortBuffer)
 
 -- The answer to writing a text of a table's jobs into a buffer: the refusals of reading come first, then 9.
 unfoldable pub answerFor : (List Job → List ℕ) → List ℕ → List ℕ → Written
-answerFor textOf table buffer = let reading = readingOf table in onPass (reading .check) Refused (answerTo (textOf (jobsOf (reading .set))) buffer)
+answerFor textOf table buffer = let reading = readingOf table in onPass (reading .check) Written.Refused (answerTo (textOf (jobsOf (reading .set))) buffer)
 
 -- The buffer after it, as it was where there is a refusal.
 unfoldable pub leftFor : (List Job → List ℕ) → List ℕ → List ℕ → List ℕ

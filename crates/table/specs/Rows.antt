@@ -1,7 +1,6 @@
 -- The fields of a line. Document 01, "A job table", and number 3. Assumes nothing.
 use Rattle.laws.specs.Words.{ℕ, zero, suc, _+_, cond, List, [], _∷_, _++_, length, drop, eqb}
 use Rattle.decimal.specs.declared.field.Field.{Field}
-use Rattle.decimal.specs.declared.field.Field.the-variants.{Number, NoNumber}
 use Rattle.decimal.specs.Fields.{fieldOf}
 
 -- The most columns of a line.
@@ -10,13 +9,13 @@ maxColumns = 7
 
 -- A field with one byte more in front.
 abbrev pub withComma : Field → Field
-withComma (Number value length) = Number value (length + 1)
-withComma NoNumber = NoNumber
+withComma (Field.Number value length) = Field.Number value (length + 1)
+withComma Field.NoNumber = Field.NoNumber
 
 -- A comma and the field after it; the code of a comma is 44.
 unfoldable pub afterComma : List ℕ → Field
-afterComma [] = NoNumber
-afterComma (b ∷ text) = cond (eqb b 44) (withComma (fieldOf text)) NoNumber
+afterComma [] = Field.NoNumber
+afterComma (b ∷ text) = cond (eqb b 44) (withComma (fieldOf text)) Field.NoNumber
 
 -- The field of a column at the start of what is left of the line; the first has no comma before it.
 abbrev pub columnOf : ℕ → List ℕ → Field
@@ -29,8 +28,8 @@ pub data Row : Type 0 where
 
 -- What follows a field; where there is no number there is no row.
 abbrev pub thenField : Field → (ℕ → ℕ → Row) → Row
-thenField (Number value length) rest = rest value length
-thenField NoNumber rest = noRow
+thenField (Field.Number value length) rest = rest value length
+thenField Field.NoNumber rest = noRow
 
 -- The values before and so many fields more, with nothing after them.
 unfoldable pub fieldsIn : ℕ → List ℕ → List ℕ → Row

@@ -1,7 +1,6 @@
 -- A whole job table. Document 01, "A job table", and numbers 1 to 7. Assumes nothing.
 use Rattle.laws.specs.Words.{ℕ, Bool, true, false, cond, List, [], _∷_, _++_, length, getD, leb, eqb, lastOf, ascii}
-use Rattle.jobs.specs.declared.{job.Job.Job, refusal.Refusal.Refusal, refusal.Check.the-variants.Refused}
-use Rattle.jobs.specs.declared.refusal.Refusal.the-variants.{TextTooLong, NotHeader, MalformedLine}
+use Rattle.jobs.specs.declared.{job.Job.Job, refusal.Refusal.Refusal, refusal.Check.Check}
 use Rattle.jobs.specs.{Refusals.onPass, Jobs.noJob, Jobs.setOf, Checks.recordCheck, Checks.anyRecord}
 use Rattle.table.specs.declared.reading.Reading.{Reading}
 use Rattle.table.specs.{Lines.linesOf, Rows.maxColumns, Rows.Row, Rows.row, Rows.noRow, Rows.rowOf}
@@ -29,12 +28,12 @@ jobOf values =
 
 -- The answer to a refused table: the refusal, and no jobs.
 abbrev pub refusedWith : Refusal → Reading
-refusedWith refusal = record { check = Refused refusal; set = setOf [] }
+refusedWith refusal = record { check = Check.Refused refusal; set = setOf [] }
 
 -- What follows a line that is seven fields; any other is refused with 3.
 abbrev pub thenRow : Row → (Job → Reading) → Reading
 thenRow (row values) rest = rest (jobOf values)
-thenRow noRow rest = refusedWith MalformedLine
+thenRow noRow rest = refusedWith Refusal.MalformedLine
 
 -- 3 to 6 line by line after the records before, the first bad line deciding, then 7.
 unfoldable pub recordsFrom : List Job → List (List ℕ) → Reading
@@ -52,9 +51,9 @@ same (a ∷ line) (b ∷ text) = cond (eqb a b) (same line text) false
 
 -- 2, then the lines under the header.
 abbrev pub underHeader : List (List ℕ) → Reading
-underHeader [] = refusedWith NotHeader
-underHeader (line ∷ lines) = cond (same line header) (recordsFrom [] lines) (refusedWith NotHeader)
+underHeader [] = refusedWith Refusal.NotHeader
+underHeader (line ∷ lines) = cond (same line header) (recordsFrom [] lines) (refusedWith Refusal.NotHeader)
 
 -- The answer to reading a text: its jobs, or the refusal with no jobs; 1 comes first.
 unfoldable pub readingOf : List ℕ → Reading
-readingOf text = cond (leb (length text) maxText) (underHeader (linesOf text)) (refusedWith TextTooLong)
+readingOf text = cond (leb (length text) maxText) (underHeader (linesOf text)) (refusedWith Refusal.TextTooLong)
