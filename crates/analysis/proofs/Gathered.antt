@@ -15,10 +15,22 @@ use Rattle.jobs.specs.Jobs.{jobAt, urgencyOf}
 use Rattle.theory.specs.Table.{Table, effectiveEarliest, effectiveLatest, given, tableOf}
 use Rattle.theory.proofs.WellFormed.{Ordered, chain-le}
 use Rattle.analysis.specs.declared.columns.Columns.{Columns}
-use Rattle.analysis.specs.Private.{notBefore, columnsOf, Ended}
-use Rattle.analysis.proofs.Prior.{prior, prior-none, prior-next}
-use Rattle.analysis.proofs.Predecessors.{release-by}
-use Rattle.analysis.proofs.Endings.{Heads, heads-none, heads-next, ends-same}
+use Rattle.theory.proofs.Predecessors.{notBefore, release-by}
+use Rattle.theory.proofs.Columns.{column}
+use Rattle.theory.proofs.Endings.{Ended, Heads, heads-none, heads-next, ends-same}
+use Rattle.theory.proofs.Prior.{prior, prior-none, prior-next}
+
+-- The columns that the bounds are made from, of the first n places, with the ends of their chains.
+abbrev pub columnsOf : Table → ℕ → List ℕ → Columns
+columnsOf t n ends =
+    record {
+      ends = ends;
+      chain = column n (t .chain);
+      urgency = column n (t .urgency);
+      most = column n (t .most);
+      earliest = column n (t .earliest);
+      latest = column n (t .latest);
+    }
 
 -- when the job after a place is ready at the earliest
 abbrev pub readyAfter : List Job → ℕ → ℕ
@@ -60,7 +72,6 @@ module _ (js : List Job) where
   t = tableOf js
 
   none-gathered : noColumns ≡ columnsOf t 0 (noColumns .ends)
-  unfolding columnsOf
   none-gathered =
       λ x.
       record {
@@ -86,7 +97,6 @@ module _ (js : List Job) where
   module _ (few : length js ≤ maxJobs) (i : ℕ) (l : i < length js) (job : Job) (here : job ≡ jobAt js i) where
     next-gathered : (columns : Columns) (urgency earliest latest first : ℕ) → columns ≡ columnsOf t i (columns .ends) → urgency ≡ urgencyOf job → earliest ≡ t .earliest i → latest ≡ t .latest i
         → stored columns i job urgency earliest latest first ≡ columnsOf t (i + 1) (set (columns .ends) first (i + 1))
-    unfolding columnsOf
     next-gathered columns urgency earliest latest first e eu ee el =
         let room : i < maxJobs = omega arith in
         let chain = filled-next maxJobs 0 (t .chain) i (columns .chain) (job .chain) room (ap (λ (q : Columns). q .chain) e) (ap (λ (j : Job). j .chain) here) in
@@ -125,7 +135,6 @@ module _ (js : List Job) where
     gathered-all = h .are ∙ ap (λ (k : ℕ). columnsOf t k (columns .ends)) all
 
     chain-at : (u : ℕ) → u < i → getD (columns .chain) u 0 ≡ t .chain u
-    unfolding columnsOf
     chain-at u l = ap (λ (q : Columns). getD (q .chain) u 0) (h .are) ∙ filled-at maxJobs 0 (t .chain) i u l
 
     pub gathered-ended : Ended n (columns .chain) (columns .ends)

@@ -22,8 +22,9 @@ use Rattle.theory.proofs.Releases.{earliest-latest}
 use Rattle.theory.proofs.AcceptedSets.{accepted-ordered, accepted-most, accepted-latest}
 use Rattle.theory.proofs.Agreement.{Agree, SameAnswers, agree-same}
 use Rattle.analysis.specs.declared.columns.Columns.{Columns}
-use Rattle.analysis.specs.Private.{lent, Fit, columnsOf}
-use Rattle.analysis.proofs.Unread.{bare, ert-bare, cja-bare, itr-bare}
+use Rattle.theory.proofs.Columns.{lent, Fit}
+use Rattle.analysis.proofs.Gathered.{columnsOf}
+use Rattle.theory.proofs.Unread.{bare, ert-bare, cja-bare, itr-bare}
 
 abbrev pub lentBy : ℕ → Columns → Table
 lentBy n columns = lent n (columns .chain) (columns .urgency) (columns .most) (columns .earliest) (columns .latest)
@@ -36,7 +37,6 @@ pub record Lends (set : JobSet) (columns : Columns) : Type 0 where
 
 module _ (t : Table) (n : ℕ) (ends : List ℕ) (e : n ≡ t .count) where
   columns-agree : Agree (lentBy n (columnsOf t n ends)) (bare t)
-  unfolding columnsOf
   columns-agree =
       let at : (f : ℕ → ℕ) (i : ℕ) → i < n → _ = (λ f i l. filled-at maxJobs 0 f n i l) in
       record {

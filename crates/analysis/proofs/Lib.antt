@@ -1,13 +1,3 @@
-pub mod Prior
-pub mod Weights
-pub mod Stretches
-pub mod Shares
-pub mod Endings
-pub mod Unread
-pub mod Pairs
-pub mod Predecessors
-pub mod Ruled
-pub mod Late
 pub mod Gathered
 pub mod Lent
 pub mod Rounding

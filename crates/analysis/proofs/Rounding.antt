@@ -26,7 +26,7 @@ use Rattle.theory.proofs.Rules.{length-after}
 use Rattle.theory.proofs.Settling.{itr-settled, rounds-limit, settled-unique, same-at, same-refl}
 use Rattle.analysis.specs.declared.answer.Itr.{Itr}
 use Rattle.analysis.specs.Answers.{itrWith}
-use Rattle.analysis.specs.Private.{Fit}
+use Rattle.theory.proofs.Columns.{Fit}
 
 limit-small : (t : Table) → t .count ≤ maxJobs → roundLimit t ≤ maxJobs * maxJobs * maxJobs + 2
 unfolding roundLimit

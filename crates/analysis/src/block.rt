@@ -1,7 +1,8 @@
 // The largest block of one chain.
 ghost use Rattle.laws.specs.Words.{_≡_, cond, ℕ, _+_, _-_, _^_, _≤_, _<_, eqb, getD};
 ghost use Rattle.jobs.specs.Limits.{maxJobs, maxTime};
-ghost use Rattle.analysis.specs.Private.{weightOf, spanned, opened as Private·opened, largestOver};
+ghost use Rattle.theory.proofs.Weights.{weightOf, spanned};
+ghost use Rattle.theory.proofs.Stretches.{opened as Private·opened, largestOver};
 use crate::number::larger;
 use jobs::set::JobSet;
 

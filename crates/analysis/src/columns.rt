@@ -4,7 +4,8 @@ ghost use Rattle.jobs.specs.declared.refusal.Check.{Check};
 ghost use Rattle.jobs.specs.Jobs.{jobsOf};
 ghost use Rattle.jobs.specs.Checks.{checkOf};
 ghost use Rattle.theory.specs.Table.{tableOf};
-ghost use Rattle.analysis.specs.Private.{columnsOf, Ended};
+ghost use Rattle.theory.proofs.Columns.{column};
+ghost use Rattle.theory.proofs.Endings.{Ended};
 use crate::number::larger;
 use crate::predecessor::not_before;
 use jobs::job::Job;
@@ -34,7 +35,7 @@ fn first_of(last: u64, chain: u64, first: usize, i: usize) -> usize
 // The columns of an accepted set.
 pub(crate) fn columns_of(set: JobSet) -> Columns
     requires { ⌜ checkOf (jobsOf set) ≡ Check.Passed ⌝ }
-    ensures { λ r. ⌜ (r ≡ columnsOf (tableOf (jobsOf set)) (set .count) (r .ends)) × Ended (set .count) (r .chain) (r .ends) ⌝ }
+    ensures { λ r. let t = tableOf (jobsOf set) in let n = set .count in ⌜ (r ≡ record { ends = r .ends; chain = column n (t .chain); urgency = column n (t .urgency); most = column n (t .most); earliest = column n (t .earliest); latest = column n (t .latest) }) × Ended n (r .chain) (r .ends) ⌝ }
 {
     let none = [0u64; JobSet::MAX_JOBS];
     let mut columns = Columns {

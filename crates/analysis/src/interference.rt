@@ -1,7 +1,9 @@
 // How long the jobs of other chains can hold up a pair, chain by chain.
 ghost use Rattle.laws.specs.Words.{_≡_};
 ghost use Rattle.theory.specs.Interference.{interference as Theory·interference};
-ghost use Rattle.analysis.specs.Private.{lent, Fit, Ended, spanned};
+ghost use Rattle.theory.proofs.Columns.{lent, Fit};
+ghost use Rattle.theory.proofs.Endings.{Ended};
+ghost use Rattle.theory.proofs.Weights.{spanned};
 use crate::block::share;
 use jobs::set::JobSet;
 

@@ -1,6 +1,8 @@
 // The largest sum over the pairs that end with one job.
 ghost use Rattle.laws.specs.Words.{_≡_, _<_};
-ghost use Rattle.analysis.specs.Private.{lent, Fit, Ended, roundAt};
+ghost use Rattle.theory.proofs.Columns.{lent, Fit};
+ghost use Rattle.theory.proofs.Endings.{Ended};
+ghost use Rattle.theory.proofs.Pairs.{roundAt};
 use crate::interference::interference;
 use crate::number::larger;
 use crate::number::lower;

@@ -1,6 +1,6 @@
 // What a job takes over from its predecessor, where it has one.
 ghost use Rattle.laws.specs.Words.{_≡_};
-ghost use Rattle.analysis.specs.Private.{notBefore};
+ghost use Rattle.theory.proofs.Predecessors.{notBefore};
 use crate::number::larger;
 
 // A time of a job that does not come before one of its predecessor; the job before it in the table is of chain `last`.

@@ -2,7 +2,8 @@
 ghost use Rattle.laws.specs.Words.{_≡_, replicate, padded};
 ghost use Rattle.jobs.specs.Limits.{maxJobs};
 ghost use Rattle.theory.specs.Rounds.{round as Theory·round};
-ghost use Rattle.analysis.specs.Private.{lent, Fit, Ended};
+ghost use Rattle.theory.proofs.Columns.{lent, Fit};
+ghost use Rattle.theory.proofs.Endings.{Ended};
 use crate::pair::largest_pair;
 use jobs::set::JobSet;
 

@@ -1,52 +1,32 @@
--- A table made from columns of numbers is the one made from the jobs.
---   fromColumns   the table of n jobs whose figures stand in columns
---   columnsOf     the one made from the columns of a list of jobs
--- Assumes nothing.
-use Prim.Native.Nat.{ℕ}
-use mathlib.Core.Path.{_≡_, ap, fun-ext}
-use mathlib.Core.List.{List, map}
-use lib.ListN.{length, getD, List·getD-map}
-use Rattle.jobs.specs.declared.job.Job.{Job}
-use Rattle.jobs.specs.Jobs.{noJob, urgencyOf}
-use Rattle.theory.specs.Table.{Table, effective, latestOf, given, tableOf}
+-- A table whose figures stand in columns of numbers, as the code reads them. Assumes nothing.
+use Prim.Native.Nat.{ℕ, suc, _+_, _*_, _≤_, _<_}
+use mathlib.Core.List.{List}
+use lib.ListN.{getD}
+use Rattle.laws.specs.Words.{tabulate, padded}
+use Rattle.jobs.specs.Limits.{maxJobs, maxRelease, maxTime}
+use Rattle.theory.specs.Table.{Table}
 
-abbrev pub fromColumns : ℕ → List ℕ → List ℕ → List ℕ → List ℕ → List ℕ → List ℕ → Table
-fromColumns n chains urgencies leasts mosts earliests latests =
+-- The table of the jobs whose figures stand in lent columns; the bounds do not read the least times.
+abbrev pub lent : ℕ → List ℕ → List ℕ → List ℕ → List ℕ → List ℕ → Table
+lent count chain urgency most earliest latest =
     record {
-      count = n;
-      chain = λ i. getD chains i 0;
-      urgency = λ i. getD urgencies i 0;
-      least = λ i. getD leasts i 0;
-      most = λ i. getD mosts i 0;
-      earliest = λ i. getD earliests i 0;
-      latest = λ i. getD latests i 0;
+      count = count;
+      chain = λ i. getD chain i 0;
+      urgency = λ i. getD urgency i 0;
+      least = λ i. 0;
+      most = λ i. getD most i 0;
+      earliest = λ i. getD earliest i 0;
+      latest = λ i. getD latest i 0;
     }
 
-abbrev pub columnsOf : List Job → Table
-columnsOf js =
-    fromColumns
-    (length js)
-    (map (λ j. j .chain) js)
-    (map urgencyOf js)
-    (map (λ j. j .least) js)
-    (map (λ j. j .most) js)
-    (map (λ j. j .release) js)
-    (map latestOf js)
+-- A table of as many jobs as a set holds, in order of their chains, with most times and releases in their limits.
+pub record Fit (t : Table) : Type 0 where
+  pub few : t .count ≤ maxJobs
+  pub ordered : (i : ℕ) → suc i < t .count → t .chain i ≤ t .chain (suc i)
+  pub mosts : (i : ℕ) → i < t .count → t .most i ≤ maxTime
+  pub early : (i : ℕ) → i < t .count → t .earliest i ≤ maxRelease + maxJobs * maxTime
+  pub late : (i : ℕ) → i < t .count → t .latest i ≤ maxRelease + maxJobs * maxTime
 
-pub columns-given : (js : List Job) → columnsOf js ≡ given js
-unfolding urgencyOf
-columns-given js =
-    let at : (f : Job → ℕ) → _≡_ {A = ℕ → ℕ} (λ n. getD (map f js) n (f noJob)) (λ n. f (getD js n noJob)) = (λ f. fun-ext (λ n. List·getD-map f js n noJob)) in
-    λ i.
-    record {
-      count = length js;
-      chain = at (λ j. j .chain) i;
-      urgency = at urgencyOf i;
-      least = at (λ j. j .least) i;
-      most = at (λ j. j .most) i;
-      earliest = at (λ j. j .release) i;
-      latest = at latestOf i;
-    }
-
-pub columns-table : (js : List Job) → effective (columnsOf js) ≡ tableOf js
-columns-table js = ap effective (columns-given js)
+-- A figure of the first n places in an array.
+abbrev pub column : ℕ → (ℕ → ℕ) → List ℕ
+column n f = padded maxJobs 0 (tabulate 0 n f)

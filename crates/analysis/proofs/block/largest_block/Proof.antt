@@ -5,9 +5,8 @@ use native.Mathlib.Omega.{arith}
 use lib.ListN.{getD}
 use borrow.Author.Needs.{needs}
 use Rattle.jobs.specs.Limits.{maxTime}
-use Rattle.analysis.specs.Private.{spanned, opened}
-use Rattle.analysis.proofs.Weights.{weight-le}
-use Rattle.analysis.proofs.Stretches.{Blocked, blocked-none, blocked-small, blocked-next, blocked-all}
+use Rattle.theory.proofs.Weights.{spanned, weight-le}
+use Rattle.theory.proofs.Stretches.{opened, Blocked, blocked-none, blocked-small, blocked-next, blocked-all}
 use Rattle.analysis.proofs.block.largest_block.Statement.{statement}
 use Rattle.analysis.proofs.block.largest_block.Tie as tie
 

@@ -1,7 +1,7 @@
 -- `opened` answers the definition of the same name. Assumes nothing.
 use borrow.Author.Tests.{le-leb, lt-leb}
 use borrow.Author.Needs.{needs}
-use Rattle.analysis.specs.Private.{opened}
+use Rattle.theory.proofs.Stretches.{opened}
 use Rattle.analysis.proofs.block.opened.Statement.{statement}
 use Rattle.analysis.proofs.block.opened.Tie as tie
 

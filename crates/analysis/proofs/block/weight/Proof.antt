@@ -2,7 +2,7 @@
 use mathlib.Core.Path.{_≡_}
 use mathlib.Core.Bool.{Bool, true, false, _&&_}
 use lib.Dec.{ltb}
-use Rattle.analysis.specs.Private.{weightOf}
+use Rattle.theory.proofs.Weights.{weightOf}
 use Rattle.analysis.proofs.block.weight.Statement.{statement}
 use Rattle.analysis.proofs.block.weight.Tie as tie
 

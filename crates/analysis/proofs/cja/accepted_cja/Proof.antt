@@ -4,7 +4,7 @@ use borrow.Author.Needs.{needs}
 use Rattle.laws.specs.Words.{padded}
 use Rattle.jobs.specs.Limits.{maxJobs}
 use Rattle.analysis.proofs.Lent.{lends}
-use Rattle.analysis.proofs.Late.{round-late}
+use Rattle.theory.proofs.Late.{round-late}
 use Rattle.analysis.proofs.cja.accepted_cja.Statement.{statement}
 use Rattle.analysis.proofs.cja.accepted_cja.Tie as tie
 

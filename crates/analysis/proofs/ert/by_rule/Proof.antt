@@ -8,10 +8,11 @@ use Rattle.jobs.specs.Limits.{maxTime}
 use Rattle.theory.specs.Table.{Table}
 use Rattle.theory.specs.Interference.{interference}
 use Rattle.theory.specs.Bounds.{boundLimit, ertRule, interferenceAt, ert}
-use Rattle.analysis.specs.Private.{lent, spanned, column}
-use Rattle.analysis.proofs.Pairs.{delay-limit}
-use Rattle.analysis.proofs.Late.{late, delay-late}
-use Rattle.analysis.proofs.Ruled.{Ruled, ruled-none, ruled-time, ruled-next}
+use Rattle.theory.proofs.Columns.{lent, column}
+use Rattle.theory.proofs.Weights.{spanned}
+use Rattle.theory.proofs.Pairs.{delay-limit}
+use Rattle.theory.proofs.Late.{late, delay-late}
+use Rattle.theory.proofs.Ruled.{Ruled, ruled-none, ruled-time, ruled-next}
 use Rattle.analysis.proofs.ert.by_rule.Statement.{statement}
 use Rattle.analysis.proofs.ert.by_rule.Tie as tie
 

@@ -8,9 +8,11 @@ use lib.ListN.{getD}
 use borrow.Author.Needs.{needs}
 use Rattle.jobs.specs.Limits.{maxTime}
 use Rattle.theory.specs.Table.{Table}
-use Rattle.analysis.specs.Private.{lent, spanned, largestOver, EndsAt}
-use Rattle.analysis.proofs.Weights.{weight-le}
-use Rattle.analysis.proofs.Shares.{Shared, shared-none, shared-next, shared-all}
+use Rattle.theory.proofs.Columns.{lent}
+use Rattle.theory.proofs.Weights.{spanned, weight-le}
+use Rattle.theory.proofs.Stretches.{largestOver}
+use Rattle.theory.proofs.Endings.{EndsAt}
+use Rattle.theory.proofs.Shares.{Shared, shared-none, shared-next, shared-all}
 use Rattle.analysis.proofs.interference.interference.Statement.{statement}
 use Rattle.analysis.proofs.interference.interference.Tie as tie
 

@@ -6,7 +6,7 @@ use native.Mathlib.Omega.{arith}
 use borrow.Author.Needs.{needs}
 use Rattle.theory.specs.Table.{Table}
 use Rattle.theory.specs.Rounds.{after, itr}
-use Rattle.analysis.specs.Private.{lent}
+use Rattle.theory.proofs.Columns.{lent}
 use Rattle.analysis.proofs.Rounding.{Rounding, rounding-none, rounding-below, rounding-next, rounding-last, rounds-small}
 use Rattle.analysis.proofs.itr.settle.Statement.{statement}
 use Rattle.analysis.proofs.itr.settle.Tie as tie

@@ -6,8 +6,8 @@ use borrow.Author.Needs.{needs}
 use Rattle.theory.specs.Table.{Table}
 use Rattle.theory.specs.Bounds.{ertRule}
 use Rattle.theory.specs.Rounds.{itrStart}
-use Rattle.analysis.specs.Private.{lent, column}
-use Rattle.analysis.proofs.Ruled.{Ruled, ruled-none, ruled-time, ruled-next}
+use Rattle.theory.proofs.Columns.{lent, column}
+use Rattle.theory.proofs.Ruled.{Ruled, ruled-none, ruled-time, ruled-next}
 use Rattle.analysis.proofs.itr.start.Statement.{statement}
 use Rattle.analysis.proofs.itr.start.Tie as tie
 

@@ -10,8 +10,9 @@ use Rattle.jobs.specs.Limits.{maxTime}
 use Rattle.theory.specs.Interference.{interference}
 use Rattle.theory.specs.Table.{Table}
 use Rattle.theory.specs.Rounds.{overlap}
-use Rattle.analysis.specs.Private.{lent, spanned}
-use Rattle.analysis.proofs.Pairs.{Walked, walked-none, walked-sum, walked-low, walked-next, walked-stop, walked-all, pair-is, delay-limit}
+use Rattle.theory.proofs.Columns.{lent}
+use Rattle.theory.proofs.Weights.{spanned}
+use Rattle.theory.proofs.Pairs.{Walked, walked-none, walked-sum, walked-low, walked-next, walked-stop, walked-all, pair-is, delay-limit}
 use Rattle.analysis.proofs.pair.largest_pair.Statement.{statement}
 use Rattle.analysis.proofs.pair.largest_pair.Tie as tie
 

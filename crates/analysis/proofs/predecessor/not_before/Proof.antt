@@ -1,7 +1,7 @@
 -- `not_before` answers `notBefore`. Assumes nothing.
 use borrow.Author.Tests.{eq-eqb, ne-eqb}
 use borrow.Author.Needs.{needs}
-use Rattle.analysis.specs.Private.{notBefore}
+use Rattle.theory.proofs.Predecessors.{notBefore}
 use Rattle.analysis.proofs.predecessor.not_before.Statement.{statement}
 use Rattle.analysis.proofs.predecessor.not_before.Tie as tie
 

@@ -8,7 +8,8 @@ use Rattle.jobs.specs.Limits.{maxJobs}
 use Rattle.theory.specs.Table.{Table}
 use Rattle.theory.specs.Bounds.{cjaWith}
 use Rattle.theory.specs.Rounds.{round}
-use Rattle.analysis.specs.Private.{lent, roundAt, column}
+use Rattle.theory.proofs.Columns.{lent, column}
+use Rattle.theory.proofs.Pairs.{roundAt}
 use Rattle.analysis.proofs.round.round.Statement.{statement}
 use Rattle.analysis.proofs.round.round.Tie as tie
 

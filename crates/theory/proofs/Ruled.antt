@@ -8,11 +8,11 @@ use native.Mathlib.Omega.{arith}
 use lib.ListN.{set, replicate}
 use Rattle.laws.proofs.Filling.{filled-none, filled-next}
 use Rattle.jobs.specs.Limits.{maxJobs, maxRelease, maxTime}
 use Rattle.theory.specs.Table.{Table}
 use Rattle.theory.specs.Bounds.{ertRule}
-use Rattle.analysis.specs.Private.{Fit, notBefore, column}
-use Rattle.analysis.proofs.Prior.{prior, prior-none, prior-next}
-use Rattle.analysis.proofs.Predecessors.{ert-by, not-before-limit}
+use Rattle.theory.proofs.Columns.{Fit, column}
+use Rattle.theory.proofs.Predecessors.{notBefore, ert-by, not-before-limit}
+use Rattle.theory.proofs.Prior.{prior, prior-none, prior-next}
 
 -- no release is beyond it
 abbrev pub latestLimit : ℕ

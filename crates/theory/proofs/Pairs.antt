@@ -14,16 +14,20 @@ use borrow.Author.Tests.{le-leb, lt-leb, eq-eqb}
 use Rattle.laws.proofs.Tests.{by-test, by-last}
 use Rattle.laws.proofs.Sums.{sum-const}
 use Rattle.jobs.specs.Limits.{maxTime}
 use Rattle.theory.specs.Table.{Table}
 use Rattle.theory.specs.Interference.{interference}
 use Rattle.theory.specs.Bounds.{demand, lowest, counted, pairBound, largestPair}
 use Rattle.theory.specs.Rounds.{overlap}
 use Rattle.theory.proofs.WellFormed.{Ordered, chain-between}
 use Rattle.theory.proofs.Rules.{demand-one, demand-front, lowest-one, lowest-front, pairs-least}
 use Rattle.theory.proofs.Interference.{outside, interference-most}
-use Rattle.analysis.specs.Private.{lent, weightOf, spanned}
-use Rattle.analysis.proofs.Weights.{weight-le}
-use Rattle.analysis.proofs.Unread.{interference-unread}
+use Rattle.theory.proofs.Columns.{lent}
+use Rattle.theory.proofs.Weights.{weightOf, spanned, weight-le}
+use Rattle.theory.proofs.Unread.{interference-unread}
+
+-- The bound that a round gives the job at j: the largest sum over the pairs that end with it, where the spans are by the previous bounds.
+abbrev pub roundAt : Table → List ℕ → ℕ → ℕ
+roundAt t previous j = largestPair t (overlap t previous) j (suc j)
 
 unfoldable pub demandFrom : Table → ℕ → ℕ → ℕ
 demandFrom t k j = cond (leb k j) (demand t k j) 0

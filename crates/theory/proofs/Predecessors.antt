@@ -1,13 +1,17 @@
 -- Rules that go from a job to the next, with what a loop keeps of the job before: the ERT rule and the effective releases. Assumes nothing.
-use Prim.Native.Nat.{ℕ, zero, suc, _+_, _≤_}
+use Prim.Native.Nat.{ℕ, zero, suc, _+_, _≤_, max}
 use mathlib.Core.Path.{_≡_}
+use mathlib.Core.Bool.{cond}
 use native.Mathlib.Omega.{arith}
 use lib.Dec.{eqb}
 use Rattle.laws.proofs.Tests.{by-test}
 use Rattle.theory.specs.Table.{Table, joined, effectiveEarliest}
 use Rattle.theory.specs.Bounds.{ertRule}
-use Rattle.analysis.specs.Private.{notBefore}
-use Rattle.analysis.proofs.Prior.{prior}
+use Rattle.theory.proofs.Prior.{prior}
+
+-- A time of a job that does not come before one of its predecessor; the job before it is of chain `last`.
+unfoldable pub notBefore : ℕ → ℕ → ℕ → ℕ → ℕ
+notBefore last chain time predecessor = cond (eqb last chain) (max time predecessor) time
 
 module _ (t : Table) where
   pub ert-by : (inter : ℕ → ℕ) (i : ℕ)

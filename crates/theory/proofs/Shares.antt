@@ -14,13 +14,13 @@ use borrow.Author.Tests.{eq-eqb, ne-eqb}
 use Rattle.laws.specs.Words.{sumBelow}
 use Rattle.laws.proofs.Tests.{by-test, by-equal}
 use Rattle.laws.proofs.Sums.{sum-zero, sum-bump}
 use Rattle.theory.specs.Table.{Table}
 use Rattle.theory.specs.Interference.{largestBlock, chains, interference}
 use Rattle.theory.proofs.WellFormed.{Ordered, chain-le}
 use Rattle.theory.proofs.Chains.{chain-most}
 use Rattle.theory.proofs.Blocks.{largest-rest}
-use Rattle.analysis.specs.Private.{largestOver, First, EndsAt}
-use Rattle.analysis.proofs.Stretches.{largest-small, largest-over}
+use Rattle.theory.proofs.Stretches.{largestOver, largest-small, largest-over}
+use Rattle.theory.proofs.Endings.{First, EndsAt}
 
 unfoldable pub share : Table → ℕ → ℕ → (ℕ → ℕ) → ℕ → ℕ → ℕ
 share t own target w n c = cond (eqb c own) 0 (largestBlock t c target w n)

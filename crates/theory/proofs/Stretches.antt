@@ -3,14 +3,32 @@
 -- Assumes nothing.
 use Prim.Native.Nat.{ℕ, zero, suc, _+_, _*_, _-_, _≤_, _<_, max}
 use mathlib.Core.Path.{_≡_, refl, sym, ap, subst, _∙_}
+use mathlib.Core.Bool.{cond}
 use native.Mathlib.Omega.{arith}
 use native.Mathlib.Nat.{add-zero, add-suc}
+use lib.Dec.{leb}
 use borrow.Author.Tests.{le-leb, lt-leb}
 use Rattle.laws.proofs.Tests.{by-order}
 use Rattle.theory.specs.Table.{Table}
 use Rattle.theory.specs.Interference.{openBlock, largestBlock}
 use Rattle.theory.proofs.Blocks.{block-on, block-ends, largest-step, open-largest}
-use Rattle.analysis.specs.Private.{opened, openOver, largestOver}
+
+-- The open block after one more job of its chain: an urgent one goes on with it, any other ends it.
+unfoldable pub opened : ℕ → ℕ → ℕ → ℕ → ℕ
+opened block target urgency weight = cond (leb target urgency) (block + weight) 0
+
+-- The block that reaches the last of n places from `first` on, where all are of one chain.
+unfoldable pub openOver : (ℕ → ℕ) → ℕ → (ℕ → ℕ) → ℕ → ℕ → ℕ
+openOver urgency target weight first zero = 0
+openOver urgency target weight first (suc n) =
+    let before = openOver urgency target weight first n in
+    opened before target (urgency (first + n)) (weight (first + n))
+
+-- The largest block among them.
+unfoldable pub largestOver : (ℕ → ℕ) → ℕ → (ℕ → ℕ) → ℕ → ℕ → ℕ
+largestOver urgency target weight first zero = 0
+largestOver urgency target weight first (suc n) =
+    max (largestOver urgency target weight first n) (openOver urgency target weight first (suc n))
 
 pub record Blocked (urgency : ℕ → ℕ) (target : ℕ) (w : ℕ → ℕ) (first end i block largest : ℕ) : Type 0 where
   pub after : first ≤ i

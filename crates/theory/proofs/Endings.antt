@@ -13,8 +13,22 @@ use lib.ListN.{length, getD, set}
 use lib.Seq.{getD-set-same, getD-set-other}
 use borrow.Author.Tests.{eq-eqb, ne-eqb}
 use Rattle.laws.proofs.Tests.{by-test, by-order, by-equal}
-use Rattle.analysis.specs.Private.{First, EndsAt}
-use Rattle.analysis.proofs.Prior.{prior}
+use Rattle.theory.proofs.Prior.{prior}
+
+-- The chain of the job at i ends before e.
+pub record EndsAt (count : ℕ) (chain : ℕ → ℕ) (i e : ℕ) : Type 0 where
+  pub later : i < e
+  pub within : e ≤ count
+  pub same : (u : ℕ) → i ≤ u → u < e → chain u ≡ chain i
+  pub other : e < count → chain e ≢ chain i
+
+-- The job at i is the first of its chain.
+abbrev pub First : (ℕ → ℕ) → ℕ → Type 0
+First chain i = (v : ℕ) → v < i → chain v ≢ chain i
+
+-- At the first place of each chain, the place after its last job.
+abbrev pub Ended : ℕ → List ℕ → List ℕ → Type 0
+Ended count chain ends = (i : ℕ) → i < count → First (λ u. getD chain u 0) i → EndsAt count (λ u. getD chain u 0) i (getD ends i 0)
 
 pub record Heads (chain : ℕ → ℕ) (i first : ℕ) (ends : List ℕ) : Type 0 where
   pub within : first ≤ i

@@ -8,15 +8,16 @@ use lib.ListN.{getD, replicate, getD-replicate}
 use borrow.Author.Tests.{lt-ltb}
 use Rattle.laws.proofs.Tabulate.{tabulate-ext}
 use Rattle.jobs.specs.Limits.{maxJobs}
 use Rattle.theory.specs.Table.{Table}
 use Rattle.theory.specs.Interference.{interference}
 use Rattle.theory.specs.Bounds.{interferenceAt, largestPair, cjaWith, always, cja, boundLimit}
 use Rattle.theory.specs.Rounds.{overlap, round}
 use Rattle.theory.proofs.Interference.{interference-same}
 use Rattle.theory.proofs.Overlaps.{overlap-by}
 use Rattle.theory.proofs.Monotone.{pairs-mono}
-use Rattle.analysis.specs.Private.{lent, Fit, weightOf, spanned}
-use Rattle.analysis.proofs.Unread.{interference-unread}
+use Rattle.theory.proofs.Columns.{lent, Fit}
+use Rattle.theory.proofs.Weights.{weightOf, spanned}
+use Rattle.theory.proofs.Unread.{interference-unread}
 
 abbrev pub late : List ℕ
 late = replicate maxJobs boundLimit
