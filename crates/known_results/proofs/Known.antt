@@ -27,43 +27,51 @@ use Rattle.machine.specs.Pick.{outranks, goesFirst, pickUpTo, pick}
 use Rattle.machine.specs.Steps.{next}
 use Rattle.machine.specs.Traces.{noted, rows}
 use Rattle.machine.proofs.Forward.{Carried, onward, carried, run-carried, trace-carried}
-use Rattle.known_results.specs.Cases.{KnownRun, runWith, Case, byDefinition, minus, p1, p2, p3, p4With3, p4, p5, p6With4, p6With6, p6, p7, p8, cases}
+use Rattle.known_results.specs.Cases.{KnownRun, runWith, Known, knownAt, Case, jobsIn, byDefinition, minus, p1, p2, p3, p4With3, p4, p5, p6With4, p6With6, p6, p7, p8, cases}
 
 -- ---- runs
 -- what ticks carried forward give of a run
 abbrev runBy : List Job → List ℕ → Carried → KnownRun
-runBy js times c =
-    record {
-      times = times;
-      check = Passed;
-      completions = tabulate 0 (length js) (λ u. getD (c .completed) u 0);
-      end = c .state .time;
-      rows = rows js (c .spans);
-    }
+runBy js times c = (times, tabulate 0 (length js) (λ u. getD (c .completed) u 0), c .state .time, rows js (c .spans))
 
-settled-run : (js : List Job) (r : KnownRun) → machineCheck js (r .times) ≡ Passed → r .end ≤ lastTime
-    → allComplete (r .times) (carried (tableOf js) (r .times) (r .end) .state .work) (length js) ≡ true
-    → runBy js (r .times) (carried (tableOf js) (r .times) (r .end)) ≡ r → runWith js (r .times) ≡ r
+settled-run : (js : List Job) (r : KnownRun) → machineCheck js (r .0) ≡ Passed → r .2 ≤ lastTime
+    → allComplete (r .0) (carried (tableOf js) (r .0) (r .2) .state .work) (length js) ≡ true
+    → runBy js (r .0) (carried (tableOf js) (r .0) (r .2)) ≡ r → runWith js (r .0) ≡ r
 unfolding runWith
 settled-run js r passed early done known =
-    rw (run-carried js (r .times) passed (r .end) early done, trace-carried js (r .times) passed (r .end) early done) known
+    rw (run-carried js (r .0) passed (r .2) early done, trace-carried js (r .0) passed (r .2) early done) known
 
 -- ---- the table
--- a case whose figures are known one by one; slacks and verdict follow from the ITR bounds
-figures : (c : Case) → checkOf (c .jobs) ≡ c .check
-    → tabulate 0 (length (c .jobs)) (tableOf (c .jobs) .earliest) ≡ c .releases
-    → tabulate 0 (length (c .jobs)) (interferenceAt (tableOf (c .jobs))) ≡ c .interferences
-    → ert (tableOf (c .jobs)) ≡ c .ertBounds
-    → cja (tableOf (c .jobs)) ≡ c .cjaBounds
-    → itr (tableOf (c .jobs)) .bounds ≡ c .itrBounds
-    → itr (tableOf (c .jobs)) .rounds ≡ c .rounds
-    → tabulate 0 (length (c .jobs)) (λ i. slack (jobAt (c .jobs) i .deadline) (boundAt (c .itrBounds) i)) ≡ c .slack
-    → meets (c .jobs) (c .itrBounds) (length (c .jobs)) ≡ c .verdict
-    → map (λ r. runWith (c .jobs) (r .times)) (c .runs) ≡ c .runs
+-- what is known of the job at a place, by lists of ERT, CJA and ITR bounds
+abbrev knownBy : List Job → List ℕ → List ℕ → List ℕ → ℕ → Known
+knownBy js e c b i =
+    (jobAt js i, tableOf js .earliest i, interferenceAt (tableOf js) i, boundAt e i, boundAt c i, boundAt b i, getD (tabulate 0 (length js) (λ i. slack (jobAt js i .deadline) (boundAt b i))) i (pos 0))
+
+known-by : (js : List Job) {e c b : List ℕ} → ert (tableOf js) ≡ e → cja (tableOf js) ≡ c → itr (tableOf js) .bounds ≡ b → knownAt js ≡ knownBy js e c b
+unfolding knownAt slacks
+known-by js by-ert by-cja by-itr = λ k. knownBy js (by-ert k) (by-cja k) (by-itr k)
+
+-- the bounds of a case, as they are known
+abbrev ertIn : Case → List ℕ
+ertIn c = map (λ (j : Known). j .3) (c .jobs)
+
+abbrev cjaIn : Case → List ℕ
+cjaIn c = map (λ (j : Known). j .4) (c .jobs)
+
+abbrev itrIn : Case → List ℕ
+itrIn c = map (λ (j : Known). j .5) (c .jobs)
+
+-- a case whose figures are known, with the bounds worked out once for all its jobs
+figures : (c : Case) → checkOf (jobsIn c) ≡ c .check → ert (tableOf (jobsIn c)) ≡ ertIn c → cja (tableOf (jobsIn c)) ≡ cjaIn c
+    → itr (tableOf (jobsIn c)) .bounds ≡ itrIn c
+    → itr (tableOf (jobsIn c)) .rounds ≡ c .rounds
+    → tabulate 0 (length (jobsIn c)) (knownBy (jobsIn c) (ertIn c) (cjaIn c) (itrIn c)) ≡ c .jobs
+    → meets (jobsIn c) (itrIn c) (length (jobsIn c)) ≡ c .verdict
+    → map (λ (r : KnownRun). runWith (jobsIn c) (r .0)) (c .runs) ≡ c .runs
     → byDefinition c ≡ c
-unfolding byDefinition slacks
-figures c check releases interferences ert-bounds cja-bounds itr-bounds rounds slacks-are verdict runs =
-    rw (check, releases, interferences, ert-bounds, cja-bounds, itr-bounds, rounds, slacks-are, verdict, runs)
+unfolding byDefinition
+figures c check by-ert by-cja by-itr rounds jobs verdict runs =
+    rw (known-by (jobsIn c) by-ert by-cja by-itr, jobs, check, rounds, by-itr, verdict, runs)
 
 first-and-rest : {A : Type 0} {x y : A} {xs ys : List A} → x ≡ y → xs ≡ ys → x ∷ xs ≡ y ∷ ys
 first-and-rest e f = rw (e, f)
@@ -71,17 +79,17 @@ first-and-rest e f = rw (e, f)
 pub known-results : map byDefinition cases ≡ cases
 unfolding urgencyOf tabulate sumBelow greatest lastOf isNext inLimits recordCheck recordsCheck checkOf joined effectiveEarliest effectiveLatest openBlock largestBlock chains interference ertRule interferenceAt ert demand lowest counted pairBound largestPair cjaWith cja itrStart overlap round sameBounds settle roundLimit itr slacks meets everyBelow inRange timesFit machineCheck complete predecessorComplete ready outranks goesFirst pickUpTo pick next noted rows onward carried
 known-results =
-    first-and-rest (figures p1 refl refl refl refl refl refl refl refl refl (first-and-rest (settled-run (p1 .jobs) p2 refl (omega arith) refl refl) (first-and-rest (settled-run (p1 .jobs) p3 refl (omega arith) refl refl) refl)))
-    (first-and-rest (figures (p4 12 (pos 0) true) refl refl refl refl refl refl refl refl refl (first-and-rest (settled-run (p4 12 (pos 0) true .jobs) p4With3 refl (omega arith) refl refl) refl))
-    (first-and-rest (figures (p4 11 (minus 1) false) refl refl refl refl refl refl refl refl refl (first-and-rest (settled-run (p4 11 (minus 1) false .jobs) p4With3 refl (omega arith) refl refl) refl))
-    (first-and-rest (figures p5 refl refl refl refl refl refl refl refl refl refl)
-    (first-and-rest (figures p6 refl refl refl refl refl refl refl refl refl (first-and-rest (settled-run (p6 .jobs) p6With4 refl (omega arith) refl refl) (first-and-rest (settled-run (p6 .jobs) p6With6 refl (omega arith) refl refl) refl)))
-    (first-and-rest (figures p7 refl refl refl refl refl refl refl refl refl refl)
-    (first-and-rest (figures p8 refl refl refl refl refl refl refl refl refl refl) refl))))))
+    first-and-rest (figures p1 refl refl refl refl refl refl refl (first-and-rest (settled-run (jobsIn p1) p2 refl (omega arith) refl refl) (first-and-rest (settled-run (jobsIn p1) p3 refl (omega arith) refl refl) refl)))
+    (first-and-rest (figures (p4 12 (pos 0) true) refl refl refl refl refl refl refl (first-and-rest (settled-run (jobsIn (p4 12 (pos 0) true)) p4With3 refl (omega arith) refl refl) refl))
+    (first-and-rest (figures (p4 11 (minus 1) false) refl refl refl refl refl refl refl (first-and-rest (settled-run (jobsIn (p4 11 (minus 1) false)) p4With3 refl (omega arith) refl refl) refl))
+    (first-and-rest (figures p5 refl refl refl refl refl refl refl refl)
+    (first-and-rest (figures p6 refl refl refl refl refl refl refl (first-and-rest (settled-run (jobsIn p6) p6With4 refl (omega arith) refl refl) (first-and-rest (settled-run (jobsIn p6) p6With6 refl (omega arith) refl refl) refl)))
+    (first-and-rest (figures p7 refl refl refl refl refl refl refl refl)
+    (first-and-rest (figures p8 refl refl refl refl refl refl refl refl) refl))))))
 
-pub p1-accepted : checkOf (p1 .jobs) ≡ Passed
+pub p1-accepted : checkOf (jobsIn p1) ≡ Passed
 unfolding lastOf isNext inLimits recordCheck recordsCheck checkOf
 p1-accepted = refl
 
-pub p1-demand-3 : Demand3 (tableOf (p1 .jobs))
-p1-demand-3 = demand-3 (p1 .jobs) p1-accepted
+pub p1-demand-3 : Demand3 (tableOf (jobsIn p1))
+p1-demand-3 = demand-3 (jobsIn p1) p1-accepted

@@ -2,62 +2,19 @@
 -- not give is chosen here; of runs it gives the rows of P2, a completion of P3 and the end of P4, and the rest is worked out by hand. Assumes nothing.
 use Rattle.laws.specs.Words.{ℕ, Bool, true, false, List, [], _∷_, _++_, map, ℤ, pos, negℤ, length, getD, tabulate}
 use Rattle.jobs.specs.declared.{job.Job.Job, refusal.Check.Check}
-use Rattle.jobs.specs.Checks.{checkOf}
-use Rattle.theory.specs.{Table.tableOf, Bounds.interferenceAt, Bounds.ert, Bounds.cja, Rounds.itr, Verdicts.slacks, Verdicts.meets}
+use Rattle.jobs.specs.{Jobs.jobAt, Checks.checkOf}
+use Rattle.theory.specs.{Table.tableOf, Bounds.boundAt, Bounds.interferenceAt, Bounds.ert, Bounds.cja, Rounds.itr, Verdicts.slacks, Verdicts.meets}
 use Rattle.machine.specs.{Runs.runOf, Traces.rows, Traces.traced}
 
--- Running times and what is known of the run with them: its check, each job's completion in table order, its end, the rows of its trace.
-pub record KnownRun : Type 0 where
-  pub times : List ℕ
-  pub check : Check
-  pub completions : List ℕ
-  pub end : ℕ
-  pub rows : List ℕ
+-- Running times and what is known of the run with them: each job's completion in table order, its end, the rows of its trace.
+abbrev pub KnownRun : Type 0
+KnownRun = List ℕ × List ℕ × ℕ × List ℕ
 
 -- The same, by the definitions.
 unfoldable pub runWith : List Job → List ℕ → KnownRun
 runWith js times =
     let run = runOf js times in
-    record {
-      times = times;
-      check = run .check;
-      completions = tabulate 0 (length js) (λ u. getD (run .completions) u 0);
-      end = run .end;
-      rows = rows js (traced js times);
-    }
-
--- A table and what is known of it: its check, in table order effective releases, interference, bounds and slacks, ITR's rounds and verdict, and runs.
-pub record Case : Type 0 where
-  pub jobs : List Job
-  pub check : Check
-  pub releases : List ℕ
-  pub interferences : List ℕ
-  pub ertBounds : List ℕ
-  pub cjaBounds : List ℕ
-  pub itrBounds : List ℕ
-  pub slack : List ℤ
-  pub rounds : ℕ
-  pub verdict : Bool
-  pub runs : List KnownRun
-
--- A case with every answer worked out by the definitions.
-unfoldable pub byDefinition : Case → Case
-byDefinition c =
-    let js = c .jobs in
-    let t = tableOf js in
-    record {
-      jobs = js;
-      check = checkOf js;
-      releases = tabulate 0 (length js) (t .earliest);
-      interferences = tabulate 0 (length js) (interferenceAt t);
-      ertBounds = ert t;
-      cjaBounds = cja t;
-      itrBounds = itr t .bounds;
-      slack = slacks js;
-      rounds = itr t .rounds;
-      verdict = meets js (itr t .bounds) (length js);
-      runs = map (λ r. runWith js (r .times)) (c .runs);
-    }
+    (times, tabulate 0 (length js) (λ u. getD (run .completions) u 0), run .end, rows js (traced js times))
 
 -- A record of a table, in the order of its columns.
 abbrev pub job : ℕ → ℕ → ℕ → ℕ → ℕ → ℕ → ℕ → Job
@@ -67,30 +24,43 @@ job c k r p l m d = record { chain = c; job = k; release = r; priority = p; leas
 abbrev pub Known : Type 0
 Known = Job × ℕ × ℕ × ℕ × ℕ × ℕ × ℤ
 
+-- The same of the job at a place, by the definitions.
+unfoldable pub knownAt : List Job → ℕ → Known
+knownAt js i =
+    let t = tableOf js in
+    (jobAt js i, t .earliest i, interferenceAt t i, boundAt (ert t) i, boundAt (cja t) i, boundAt (itr t .bounds) i, getD (slacks js) i (pos 0))
+
+-- A table and what is known of it: its jobs, its check, ITR's rounds and verdict, and runs.
+pub record Case : Type 0 where
+  pub jobs : List Known
+  pub check : Check
+  pub rounds : ℕ
+  pub verdict : Bool
+  pub runs : List KnownRun
+
+-- The jobs of a case.
+abbrev pub jobsIn : Case → List Job
+jobsIn c = map (λ (j : Known). j .0) (c .jobs)
+
+-- A case with every answer worked out by the definitions.
+unfoldable pub byDefinition : Case → Case
+byDefinition c =
+    let js = jobsIn c in
+    record {
+      jobs = tabulate 0 (length js) (knownAt js);
+      check = checkOf js;
+      rounds = itr (tableOf js) .rounds;
+      verdict = meets js (itr (tableOf js) .bounds) (length js);
+      runs = map (λ (r : KnownRun). runWith js (r .0)) (c .runs);
+    }
+
+-- An accepted table.
+abbrev pub accepted : List Known → ℕ → Bool → List KnownRun → Case
+accepted jobs rounds verdict runs = record { jobs = jobs; check = Check.Passed; rounds = rounds; verdict = verdict; runs = runs }
+
 -- A slack below zero.
 abbrev pub minus : ℕ → ℤ
 minus n = negℤ (pos n)
-
--- An accepted table: its jobs with their figures, the rounds of ITR, the verdict by ITR, and runs.
-abbrev pub accepted : List Known → ℕ → Bool → List KnownRun → Case
-accepted jobs rounds verdict runs =
-    record {
-      jobs = map (λ (j : Known). j .0) jobs;
-      check = Check.Passed;
-      releases = map (λ (j : Known). j .1) jobs;
-      interferences = map (λ (j : Known). j .2) jobs;
-      ertBounds = map (λ (j : Known). j .3) jobs;
-      cjaBounds = map (λ (j : Known). j .4) jobs;
-      itrBounds = map (λ (j : Known). j .5) jobs;
-      slack = map (λ (j : Known). j .6) jobs;
-      rounds = rounds;
-      verdict = verdict;
-      runs = runs;
-    }
-
--- A run that is not refused: running times, completions, end, rows of the trace.
-abbrev pub run : List ℕ → List ℕ → ℕ → List ℕ → KnownRun
-run times completions end rows = record { times = times; check = Check.Passed; completions = completions; end = end; rows = rows }
 
 -- A row of a trace.
 abbrev pub row : ℕ → ℕ → ℕ → ℕ → List ℕ
@@ -98,15 +68,21 @@ row c k from to = c ∷ k ∷ from ∷ to ∷ []
 
 -- P2: P1 with all most times.
 abbrev pub p2 : KnownRun
-p2 =
-    run (40 ∷ 10 ∷ 50 ∷ 85 ∷ 10 ∷ 50 ∷ []) (50 ∷ 60 ∷ 160 ∷ 245 ∷ 40 ∷ 110 ∷ []) 245
-    (row 1 1 0 30 ++ row 2 1 30 40 ++ row 1 1 40 50 ++ row 1 2 50 60 ++ row 2 2 60 110 ++ row 1 3 110 160 ++ row 1 4 160 245)
+p2 = (
+  40 ∷ 10 ∷ 50 ∷ 85 ∷ 10 ∷ 50 ∷ [],
+  50 ∷ 60 ∷ 160 ∷ 245 ∷ 40 ∷ 110 ∷ [],
+  245,
+  row 1 1 0 30 ++ row 2 1 30 40 ++ row 1 1 40 50 ++ row 1 2 50 60 ++ row 2 2 60 110 ++ row 1 3 110 160 ++ row 1 4 160 245,
+)
 
 -- P3: P1 with 30 for the first job; job 1 of chain 2 completes later, at 50 and not 40.
 abbrev pub p3 : KnownRun
-p3 =
-    run (30 ∷ 10 ∷ 50 ∷ 85 ∷ 10 ∷ 50 ∷ []) (30 ∷ 40 ∷ 160 ∷ 245 ∷ 50 ∷ 110 ∷ []) 245
-    (row 1 1 0 30 ++ row 1 2 30 40 ++ row 2 1 40 50 ++ row 2 2 60 110 ++ row 1 3 110 160 ++ row 1 4 160 245)
+p3 = (
+  30 ∷ 10 ∷ 50 ∷ 85 ∷ 10 ∷ 50 ∷ [],
+  30 ∷ 40 ∷ 160 ∷ 245 ∷ 50 ∷ 110 ∷ [],
+  245,
+  row 1 1 0 30 ++ row 1 2 30 40 ++ row 2 1 40 50 ++ row 2 2 60 110 ++ row 1 3 110 160 ++ row 1 4 160 245,
+)
 
 abbrev pub p1 : Case
 p1 =
@@ -121,7 +97,7 @@ p1 =
 
 -- Before its release the machine is idle.
 abbrev pub p4With3 : KnownRun
-p4With3 = run (3 ∷ []) (8 ∷ []) 8 (row 1 1 5 8)
+p4With3 = (3 ∷ [], 8 ∷ [], 8, row 1 1 5 8)
 
 -- P4: one job, with the deadline that its bound meets and with the one before.
 abbrev pub p4 : ℕ → ℤ → Bool → Case
@@ -133,10 +109,10 @@ p5 = accepted ((job 1 1 0 1 4 4 8, 0, 4, 8, 8, 8, pos 0) ∷ (job 2 1 0 1 4 4 8,
 
 -- The second job runs at its effective release, and later where the first takes its most time.
 abbrev pub p6With4 : KnownRun
-p6With4 = run (4 ∷ 2 ∷ []) (4 ∷ 6 ∷ []) 6 (row 1 1 0 4 ++ row 1 2 4 6)
+p6With4 = (4 ∷ 2 ∷ [], 4 ∷ 6 ∷ [], 6, row 1 1 0 4 ++ row 1 2 4 6)
 
 abbrev pub p6With6 : KnownRun
-p6With6 = run (6 ∷ 2 ∷ []) (6 ∷ 8 ∷ []) 8 (row 1 1 0 6 ++ row 1 2 6 8)
+p6With6 = (6 ∷ 2 ∷ [], 6 ∷ 8 ∷ [], 8, row 1 1 0 6 ++ row 1 2 6 8)
 
 -- P6: a later job's effective release.
 abbrev pub p6 : Case
