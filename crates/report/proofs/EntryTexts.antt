@@ -1,12 +1,16 @@
 -- The rows of the trace text, one after another. Assumes nothing.
-use Prim.Native.Nat.{ℕ, _+_}
-use mathlib.Core.List.{List, [], _++_}
+use Prim.Native.Nat.{ℕ, _+_, _*_}
+use mathlib.Core.List.{List, [], _∷_, _++_}
 use mathlib.Core.Path.{_≡_, refl}
 use native.Mathlib.Numerals.{add-one}
-use lib.ListN.{length, length-append}
+use lib.ListN.{length, getD, length-append}
 use Rattle.laws.proofs.Pieces.{Made, PiecesWritten}
-use Rattle.report.specs.Rows.{columnsText, lineEnd}
-use Rattle.report.specs.Private.{entryValues, entryText, entriesText}
+use Rattle.report.specs.Rows.{columnsText, lineEnd, entryText, entriesText}
+
+-- the four numbers of entry n
+abbrev pub entryValues : List ℕ → ℕ → List ℕ
+entryValues numbers n =
+    getD numbers (4 * n) 0 ∷ getD numbers (4 * n + 1) 0 ∷ getD numbers (4 * n + 2) 0 ∷ getD numbers (4 * n + 3) 0 ∷ []
 
 pub entry-length : (numbers : List ℕ) (n : ℕ) → length (entryText numbers n) ≡ length (columnsText (entryValues numbers n)) + 2
 unfolding entryText

@@ -2,7 +2,7 @@
 -- time of a run 10, so that a row of bounds takes at most 58 bytes and a row of a trace 31. Assumes nothing.
 use Prim.Native.Nat.{ℕ, zero, suc, _+_, _-_, _*_, _^_, _≤_, _<_}
 use mathlib.Core.List.{List, [], _∷_}
-use mathlib.Core.Path.{_≡_, sym, subst}
+use mathlib.Core.Path.{_≡_, sym, ap, subst}
 use native.Mathlib.Omega.{arith}
 use lib.Dec.{ltb}
 use lib.IntN.{ℤ, pos, natAbs, _-ℤ_}
@@ -25,14 +25,15 @@ use Rattle.theory.specs.Verdicts.{slack, slacks}
 use Rattle.theory.proofs.Claims.{bounds-limited}
 use Rattle.machine.specs.declared.trace.Span.{Span}
 use Rattle.machine.specs.States.{lastTime}
-use Rattle.machine.specs.Traces.{row, traced}
+use Rattle.machine.specs.Traces.{row, rows, traced}
 use Rattle.machine.proofs.SpanTimes.{EndedBy, spans-ended}
 use Rattle.machine.proofs.Claims.{trace-within-twice}
-use Rattle.report.specs.Rows.{columnText, columnsFrom, columnsText, boundsRow, boundsRows, spanText, spansText, lineEnd}
+use Rattle.report.specs.Rows.{columnText, columnsFrom, columnsText, boundsRow, boundsRows, entriesText, lineEnd}
 use Rattle.report.specs.Texts.{boundsHeader, boundsText, mostTimes, traceHeader, traceText}
 use Rattle.report.specs.Claims.{maxBytes, TextsFit}
 use Rattle.report.proofs.RowTexts.{rowValues, row-length}
 use Rattle.report.proofs.MostTimes.{most-passed}
+use Rattle.report.proofs.TraceTexts.{spanText, spansText, rows-spans}
 
 -- ---- columns of so many digits
 abbrev Narrow : List ℕ → List ℕ → Type 0
@@ -123,7 +124,6 @@ module _ (js : List Job) (passed : checkOf js ≡ Passed) where
 
   -- ---- the rows of a trace
   span-within : (s : Span) → s .from ≤ lastTime → s .to ≤ lastTime → length (spanText js s) ≤ 31
-  unfolding spanText
   span-within s from to =
       let numbers = numbered-at js ok (s .at) in
       let narrow : Narrow (row js s) (2 ∷ 3 ∷ 10 ∷ 10 ∷ []) =
@@ -141,7 +141,7 @@ module _ (js : List Job) (passed : checkOf js ≡ Passed) where
   trace-fit =
       let times = mostTimes js in
       let ss = traced js times in
-      omega (arith, length-append traceHeader (spansText js ss), spans-within ss (spans-ended (tableOf js) times lastTime), trace-within-twice js times (most-passed js passed), ok .few)
+      omega (arith, length-append traceHeader (entriesText (rows js ss) (length ss)), ap length (rows-spans js ss), spans-within ss (spans-ended (tableOf js) times lastTime), trace-within-twice js times (most-passed js passed), ok .few)
 
 pub texts-fit : TextsFit
 texts-fit js passed = record { bounds = bounds-fit js passed; trace = trace-fit js passed }

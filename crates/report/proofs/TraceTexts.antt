@@ -1,6 +1,6 @@
 -- The trace text: the numbers that the machine leaves for the most times of an accepted set, read as rows. Assumes nothing.
 use Prim.Native.Nat.{ℕ, _*_, _≤_}
-use mathlib.Core.List.{List, [], _∷_, _++_, append-assoc}
+use mathlib.Core.List.{List, [], _∷_, _++_, append-assoc, append-nil}
 use mathlib.Core.Path.{_≡_, refl, sym, ap, ap₂, _∙_}
 use native.Mathlib.Omega.{arith}
 use lib.ListN.{length, drop}
@@ -19,20 +19,29 @@ use Rattle.machine.specs.declared.trace.Traced.the-variants.{Entries, Refused a
 use Rattle.machine.specs.Traces.{row, rows, traced, traceOf, tracedIn}
 use Rattle.machine.proofs.Tracing.{rows-length, trace-written, traced-length}
 use Rattle.machine.proofs.Claims.{trace-within-twice}
-use Rattle.report.specs.Rows.{columnsText, lineEnd, spanText, spansText}
-use Rattle.report.specs.Private.{entryValues, entryText, entriesText}
+use Rattle.report.specs.Rows.{columnsText, lineEnd, entryText, entriesText}
 use Rattle.report.specs.Texts.{mostTimes, traceHeader, traceText}
 use Rattle.report.proofs.Wholes.{patched-start}
+use Rattle.report.proofs.EntryTexts.{entryValues}
 use Rattle.report.proofs.MostTimes.{most-passed}
 
 -- ---- rows
+-- the row of a span
+abbrev pub spanText : List Job → Span → List ℕ
+spanText js s = columnsText (row js s) ++ lineEnd
+
+-- the rows of spans, the earliest first, which stands last in the list
+unfoldable pub spansText : List Job → List Span → List ℕ
+spansText js [] = []
+spansText js (s ∷ ss) = spansText js ss ++ spanText js s
+
 four-read : (w x y z : ℕ) (before rest : List ℕ) (n : ℕ) → length before ≡ 4 * n → entryValues (before ++ (w ∷ x ∷ y ∷ z ∷ rest)) n ≡ w ∷ x ∷ y ∷ z ∷ []
 four-read w x y z before rest n e =
     let all = w ∷ x ∷ y ∷ z ∷ rest in
     rw (← e, getD-append-seam before w (x ∷ y ∷ z ∷ rest) 0, getD-append-add before all 1 0, getD-append-add before all 2 0, getD-append-add before all 3 0)
 
 entry-span : (js : List Job) (s : Span) (before rest : List ℕ) (n : ℕ) → length before ≡ 4 * n → entryText (before ++ (row js s ++ rest)) n ≡ spanText js s
-unfolding entryText spanText
+unfolding entryText
 entry-span js s before rest n e =
     let j = jobAt js (s .at) in
     ap (λ (values : List ℕ). columnsText values ++ lineEnd) (four-read (j .chain) (j .job) (s .from) (s .to) before rest n e)
@@ -44,9 +53,12 @@ entries-spans js (s ∷ ss) rest =
     rw (append-assoc (rows js ss) (row js s) rest)
     (ap₂ (λ (a b : List ℕ). a ++ b) (entries-spans js ss (row js s ++ rest)) (entry-span js s (rows js ss) rest (length ss) (rows-length js ss)))
 
+pub rows-spans : (js : List Job) (ss : List Span) → entriesText (rows js ss) (length ss) ≡ spansText js ss
+rows-spans js ss = rw (← append-nil (rows js ss)) (entries-spans js ss [])
+
 -- a buffer that begins with the rows of spans
-pub rows-text : (js : List Job) (ss : List Span) (buffer : List ℕ) → entriesText (patched buffer 0 (rows js ss)) (length ss) ≡ spansText js ss
-rows-text js ss buffer = rw (patched-start buffer (rows js ss)) (entries-spans js ss (drop (length (rows js ss)) buffer))
+rows-text : (js : List Job) (ss : List Span) (buffer : List ℕ) → entriesText (patched buffer 0 (rows js ss)) (length ss) ≡ entriesText (rows js ss) (length ss)
+rows-text js ss buffer = rw (patched-start buffer (rows js ss)) (entries-spans js ss (drop (length (rows js ss)) buffer)) ∙ sym (rows-spans js ss)
 
 -- ---- the machine's answer
 abbrev countOf : Traced → ℕ
@@ -58,7 +70,7 @@ pub record Ran (js : List Job) (answer : Traced) (numbers : List ℕ) : Type 0 w
   pub count : answer ≡ Entries (length (traced js (mostTimes js)))
   pub few : length (traced js (mostTimes js)) ≤ 2 * maxJobs
   pub room : 4 * length (traced js (mostTimes js)) ≤ length numbers
-  pub text : entriesText numbers (length (traced js (mostTimes js))) ≡ spansText js (traced js (mostTimes js))
+  pub text : entriesText numbers (length (traced js (mostTimes js))) ≡ entriesText (rows js (traced js (mostTimes js))) (length (traced js (mostTimes js)))
 
 -- the most times of an accepted set, and a buffer with room for every trace
 pub most-ran : (js : List Job) → checkOf js ≡ Passed → (times : List ℕ) → times ≡ mostTimes js → (buffer : List ℕ) → 8 * maxJobs ≤ length buffer

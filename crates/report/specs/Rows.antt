@@ -1,10 +1,8 @@
 -- Rows of the bounds text and the trace text. Document 01, "Programs and the C side". Assumes nothing.
-use Rattle.laws.specs.Words.{ℕ, zero, suc, List, [], _∷_, _++_, ℤ, pos, getD, ascii}
+use Rattle.laws.specs.Words.{ℕ, zero, suc, _+_, _*_, List, [], _∷_, _++_, ℤ, pos, getD, ascii}
 use Rattle.decimal.specs.Digits.{decimal, signed}
 use Rattle.jobs.specs.declared.job.Job.{Job}
 use Rattle.jobs.specs.Jobs.{jobAt}
-use Rattle.machine.specs.declared.trace.Span.{Span}
-use Rattle.machine.specs.Traces.{row}
 
 -- CR LF.
 abbrev pub lineEnd : List ℕ
@@ -39,11 +37,12 @@ boundsRows js ert cja itr slacks (suc n) =
     boundsRows js ert cja itr slacks n
     ++ boundsRow (jobAt js n) (getD ert n 0) (getD cja n 0) (getD itr n 0) (getD slacks n (pos 0))
 
--- A row of the trace text: chain, job, from, to.
-unfoldable pub spanText : List Job → Span → List ℕ
-spanText js s = columnsText (row js s) ++ lineEnd
+-- The row of entry n in the numbers of a trace, four for each entry: chain, job, from, to.
+unfoldable pub entryText : List ℕ → ℕ → List ℕ
+entryText numbers n =
+    columnsText (getD numbers (4 * n) 0 ∷ getD numbers (4 * n + 1) 0 ∷ getD numbers (4 * n + 2) 0 ∷ getD numbers (4 * n + 3) 0 ∷ []) ++ lineEnd
 
--- The rows of spans, the earliest first, which stands last in the list.
-unfoldable pub spansText : List Job → List Span → List ℕ
-spansText js [] = []
-spansText js (s ∷ ss) = spansText js ss ++ spanText js s
+-- The rows of the first n entries.
+unfoldable pub entriesText : List ℕ → ℕ → List ℕ
+entriesText numbers zero = []
+entriesText numbers (suc n) = entriesText numbers n ++ entryText numbers n

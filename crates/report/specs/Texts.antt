@@ -5,9 +5,9 @@ use Rattle.jobs.specs.declared.{job.Job.Job, refusal.Refusal.Refusal}
 use Rattle.jobs.specs.{Refusals.onPass, Jobs.jobsOf}
 use Rattle.table.specs.Tables.{readingOf}
 use Rattle.theory.specs.{Table.tableOf, Bounds.ert, Bounds.cja, Rounds.itr, Verdicts.slacks}
-use Rattle.machine.specs.Traces.{traced}
+use Rattle.machine.specs.Traces.{rows, traced}
 use Rattle.report.specs.declared.written.Written.{Written}
-use Rattle.report.specs.Rows.{boundsRows, spansText}
+use Rattle.report.specs.Rows.{boundsRows, entriesText}
 
 -- The first line of the bounds text.
 abbrev pub boundsHeader : List ℕ
@@ -29,7 +29,9 @@ mostTimes js = map (λ (j : Job). j .most) js
 
 -- The trace text of a list of jobs: a row for each entry of the run with all most times.
 unfoldable pub traceText : List Job → List ℕ
-traceText js = traceHeader ++ spansText js (traced js (mostTimes js))
+traceText js =
+    let spans = traced js (mostTimes js) in
+    traceHeader ++ entriesText (rows js spans) (length spans)
 
 -- How many bytes a text takes in a buffer, or refusal 9.
 unfoldable pub answerTo : List ℕ → List ℕ → Written

@@ -1,6 +1,5 @@
 // Numbers with single commas between them, and bytes as they are, at a place of a buffer that has room for them.
 ghost use Rattle.laws.specs.Words.{_≡_, _+_, _*_, _≤_, length, patched};
-ghost use Rattle.report.specs.Private.{mostColumns};
 ghost use Rattle.report.specs.Rows.{columnText, columnsText};
 use decimal::count::digit_count;
 use decimal::unsigned::write_unsigned;
@@ -31,7 +30,7 @@ pub(crate) fn write_column(k: usize, value: u64, out: &mut [u8], at: usize) -> u
 
 // How many bytes the columns take; a column has a comma and at most 20 digits.
 pub(crate) fn columns_length(values: &[u64]) -> usize
-    requires { ⌜ length (now values) ≤ mostColumns ⌝ }
+    requires { ⌜ length (now values) ≤ 8 ⌝ }
     ensures { λ r. ⌜ (r ≡ length (columnsText (now (values .entry)))) × (r ≤ 21 * length (now (values .entry))) ⌝ }
 {
     let mut sum: usize = 0;

@@ -1,7 +1,7 @@
 // The rows of the trace text: four numbers each, one row after another in a slice.
-ghost use Rattle.laws.specs.Words.{_≡_, _+_, _*_, _≤_, length, patched};
+ghost use Rattle.laws.specs.Words.{_≡_, _+_, _*_, _≤_, [], _∷_, length, getD, patched};
 ghost use Rattle.jobs.specs.Limits.{maxJobs};
-ghost use Rattle.report.specs.Private.{entryValues, entryText, entriesText};
+ghost use Rattle.report.specs.Rows.{entryText, entriesText};
 use crate::columns::columns_length;
 use crate::columns::write_bytes;
 use crate::columns::write_columns;
@@ -9,7 +9,7 @@ use crate::columns::write_columns;
 // The four numbers of entry n.
 fn entry_values(numbers: &[u64], n: usize) -> [u64; 4]
     requires { ⌜ 4 * n + 4 ≤ length (now numbers) ⌝ }
-    ensures { λ r. ⌜ r ≡ entryValues (now (numbers .entry)) n ⌝ }
+    ensures { λ r. let all = now (numbers .entry) in ⌜ r ≡ getD all (4 * n) 0 ∷ getD all (4 * n + 1) 0 ∷ getD all (4 * n + 2) 0 ∷ getD all (4 * n + 3) 0 ∷ [] ⌝ }
 {
     let at = 4 * n;
     [

@@ -4,7 +4,7 @@ ghost use Rattle.decimal.specs.Writing.{written as Decimal·written};
 ghost use Rattle.jobs.specs.Limits.{maxJobs};
 ghost use Rattle.jobs.specs.Jobs.{jobsOf};
 ghost use Rattle.jobs.specs.Checks.{checkOf};
-ghost use Rattle.report.specs.Private.{entriesText};
+ghost use Rattle.report.specs.Rows.{entriesText};
 ghost use Rattle.report.specs.Texts.{mostTimes, traceHeader, traceText, answerTo, answerFor, leftFor};
 use crate::columns::write_bytes;
 use crate::entries::entries_length;

@@ -4,7 +4,7 @@ use mathlib.Core.Path.{_≡_, refl, ap, _∙_}
 use native.Mathlib.Omega.{arith}
 use lib.ListN.{length, length-append}
 use borrow.Author.Needs.{needs}
-use Rattle.report.specs.Private.{entryText, entriesText}
+use Rattle.report.specs.Rows.{entryText, entriesText}
 use Rattle.report.proofs.EntryTexts.{entries-made}
 use Rattle.report.proofs.entries.entries_length.Statement.{statement}
 use Rattle.report.proofs.entries.entries_length.Tie as tie

@@ -6,9 +6,8 @@ use native.Mathlib.Omega.{arith}
 use lib.ListN.{length}
 use borrow.Author.Needs.{needs}
 use Rattle.laws.proofs.Buffers.{Wrote, wrote-none, wrote-more, wrote-room, wrote-length}
-use Rattle.report.specs.Rows.{columnsText, lineEnd}
-use Rattle.report.specs.Private.{entryValues, entryText}
-use Rattle.report.proofs.EntryTexts.{entry-length, entry-pieces}
+use Rattle.report.specs.Rows.{columnsText, lineEnd, entryText}
+use Rattle.report.proofs.EntryTexts.{entryValues, entry-length, entry-pieces}
 use Rattle.report.proofs.entries.write_entry.Statement.{statement}
 use Rattle.report.proofs.entries.write_entry.Tie as tie
 

@@ -7,7 +7,7 @@ use lib.ListN.{length, length-append}
 use borrow.Author.Needs.{needs}
 use Rattle.laws.proofs.Buffers.{Wrote, wrote-none, wrote-more, wrote-room, wrote-length}
 use Rattle.decimal.proofs.Writing.{written-short}
-use Rattle.report.specs.Private.{entriesText}
+use Rattle.report.specs.Rows.{entriesText}
 use Rattle.report.specs.Texts.{traceHeader}
 use Rattle.report.proofs.Wholes.{wrote-whole}
 use Rattle.report.proofs.TextAnswers.{answer-short, answer-fits}
