@@ -10,9 +10,10 @@ use Rattle.jobs.specs.declared.set.JobSet.{JobSet}
 use Rattle.jobs.specs.declared.join.Joined.{Joined}
 use Rattle.jobs.specs.declared.refusal.Check.{Check}
 use Rattle.jobs.specs.declared.refusal.Check.the-variants.{Passed, Refused}
+use Rattle.jobs.specs.Refusals.{onPass}
 use Rattle.jobs.specs.Jobs.{noJob, jobsOf, setOf}
 use Rattle.jobs.specs.Checks.{recordsCheck, anyRecord, checkOf}
-use Rattle.jobs.specs.Joins.{numbered, withChain, joinCheck, joinedBy, joinOf}
+use Rattle.jobs.specs.Joins.{numbered, withChain, joinCheck, joinOf}
 use Rattle.jobs.proofs.Sets.{jobs-set}
 use Rattle.jobs.proofs.Checks.{then-first, then-second, any-some, check-passed}
 use Rattle.jobs.proofs.Joins.{length-numbered}
@@ -32,18 +33,14 @@ join-passes old new e =
     (then-first (recordsCheck [] (withChain old new)) (anyRecord new) e)
     (any-joined old new (then-second (recordsCheck [] (withChain old new)) (anyRecord new) e))
 
-by-check : (k : Check) (old joined : JobSet) → joinedBy k old joined .check ≡ k
-by-check Passed old joined = refl
-by-check (Refused refusal) old joined = refl
-
-by-set : (k : Check) (old joined : JobSet) → k ≡ Passed → joinedBy k old joined .set ≡ joined
+by-set : (k : Check) (old joined : JobSet) → k ≡ Passed → onPass k (λ refusal. old) joined ≡ joined
 by-set Passed old joined e = refl
 by-set (Refused refusal) old joined e = let z : _≡_ {A = ℕ} 0 1 = cc in absurd (omega arith)
 
 module _ (old new : JobSet) (joined : Joined) (e : joined ≡ joinOf old new) where
   pub joined-check : joined .check ≡ joinCheck (jobsOf old) (jobsOf new)
   unfolding joinOf
-  joined-check = ap (λ (j : Joined). j .check) e ∙ by-check (joinCheck (jobsOf old) (jobsOf new)) old (setOf (withChain (jobsOf old) (jobsOf new)))
+  joined-check = ap (λ (j : Joined). j .check) e
 
   module _ (passed : joined .check ≡ Passed) where
     pub joined-passes : joinCheck (jobsOf old) (jobsOf new) ≡ Passed

@@ -3,9 +3,13 @@ use Rattle.laws.specs.Words.{ℕ, List, length, getD, tabulate, padded}
 use Rattle.jobs.specs.declared.{job.Job.Job, set.JobSet.JobSet}
 use Rattle.jobs.specs.Limits.{maxJobs}
 
+-- A job by its numbers and values, in the order of a table's columns.
+abbrev pub job : ℕ → ℕ → ℕ → ℕ → ℕ → ℕ → ℕ → Job
+job c k r p l m d = record { chain = c; job = k; release = r; priority = p; least = l; most = m; deadline = d }
+
 -- What stands in a set where there is no job.
 abbrev pub noJob : Job
-noJob = record { chain = 0; job = 0; release = 0; priority = 0; least = 0; most = 0; deadline = 0 }
+noJob = job 0 0 0 0 0 0 0
 
 -- The job at a place, and no job beyond the last.
 abbrev pub jobAt : List Job → ℕ → Job

@@ -2,20 +2,11 @@
 -- Assumes nothing.
 use Rattle.laws.specs.Words.{ℕ, _+_, List, [], _∷_, _++_, lastOf}
 use Rattle.jobs.specs.declared.{job.Job.Job, set.JobSet.JobSet, refusal.Check.Check, join.Joined.Joined}
-use Rattle.jobs.specs.{Refusals.onPass, Refusals.andThen, Jobs.noJob, Jobs.jobsOf, Jobs.setOf, Checks.recordsCheck, Checks.anyRecord}
+use Rattle.jobs.specs.{Refusals.onPass, Refusals.andThen, Jobs.job, Jobs.noJob, Jobs.jobsOf, Jobs.setOf, Checks.recordsCheck, Checks.anyRecord}
 
 -- A job under another chain and job number, with its values as they were.
 abbrev pub renumbered : ℕ → ℕ → Job → Job
-renumbered c k j =
-    record {
-      chain = c;
-      job = k;
-      release = j .release;
-      priority = j .priority;
-      least = j .least;
-      most = j .most;
-      deadline = j .deadline;
-    }
+renumbered c k j = job c k (j .release) (j .priority) (j .least) (j .most) (j .deadline)
 
 -- Records as the jobs k, k + 1, … of the chain c.
 unfoldable pub numbered : ℕ → ℕ → List Job → List Job
@@ -30,10 +21,8 @@ withChain old new = old ++ numbered (lastOf noJob old .chain + 1) 1 new
 unfoldable pub joinCheck : List Job → List Job → Check
 joinCheck old new = andThen (recordsCheck [] (withChain old new)) (anyRecord new)
 
--- The joined set where a check passes, else the old one as it was.
-abbrev pub joinedBy : Check → JobSet → JobSet → Joined
-joinedBy check old joined = record { check = check; set = onPass check (λ refusal. old) joined }
-
 -- The answer to a join: the old set with the new chain, or the refusal and the old set.
 unfoldable pub joinOf : JobSet → JobSet → Joined
-joinOf old new = joinedBy (joinCheck (jobsOf old) (jobsOf new)) old (setOf (withChain (jobsOf old) (jobsOf new)))
+joinOf old new =
+    let check = joinCheck (jobsOf old) (jobsOf new) in
+    record { check = check; set = onPass check (λ refusal. old) (setOf (withChain (jobsOf old) (jobsOf new))) }

@@ -2,7 +2,7 @@
 -- not give is chosen here; of runs it gives the rows of P2, a completion of P3 and the end of P4, and the rest is worked out by hand. Assumes nothing.
 use Rattle.laws.specs.Words.{ℕ, Bool, true, false, List, [], _∷_, _++_, map, ℤ, pos, negℤ, length, getD, tabulate}
 use Rattle.jobs.specs.declared.{job.Job.Job, refusal.Check.Check}
-use Rattle.jobs.specs.{Jobs.jobAt, Checks.checkOf}
+use Rattle.jobs.specs.{Jobs.job, Jobs.jobAt, Checks.checkOf}
 use Rattle.theory.specs.{Table.tableOf, Bounds.boundAt, Bounds.interferenceAt, Bounds.ert, Bounds.cja, Rounds.itr, Verdicts.slacks, Verdicts.meets}
 use Rattle.machine.specs.{Runs.runOf, Traces.rows, Traces.traced}
 
@@ -15,10 +15,6 @@ unfoldable pub runWith : List Job → List ℕ → KnownRun
 runWith js times =
     let run = runOf js times in
     (times, tabulate 0 (length js) (λ u. getD (run .completions) u 0), run .end, rows js (traced js times))
-
--- A record of a table, in the order of its columns.
-abbrev pub job : ℕ → ℕ → ℕ → ℕ → ℕ → ℕ → ℕ → Job
-job c k r p l m d = record { chain = c; job = k; release = r; priority = p; least = l; most = m; deadline = d }
 
 -- A job with its effective release, its interference, and its columns of the bounds text: ERT, CJA, ITR, slack.
 abbrev pub Known : Type 0

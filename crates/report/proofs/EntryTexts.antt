@@ -22,7 +22,7 @@ entry-pieces numbers n = refl
 
 pub entries-made : (numbers : List ℕ) (total : ℕ) → Made (entriesText numbers) (entryText numbers) total
 unfolding entriesText
-entries-made numbers total = record { none = refl; next = λ n h. rw add-one }
+entries-made numbers total = record { none = refl; next = λ n h. rw add-one refl }
 
 abbrev pub EntriesWritten : List ℕ → ℕ → List ℕ → ℕ → List ℕ → ℕ → ℕ → Type 0
 EntriesWritten numbers total before at out next n = PiecesWritten (entriesText numbers) (entryText numbers) total before at out next n

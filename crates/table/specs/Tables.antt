@@ -1,7 +1,7 @@
 -- A whole job table. Document 01, "A job table", and numbers 1 to 7. Assumes nothing.
 use Rattle.laws.specs.Words.{ℕ, Bool, true, false, cond, List, [], _∷_, _++_, length, getD, leb, eqb, lastOf, ascii}
 use Rattle.jobs.specs.declared.{job.Job.Job, refusal.Refusal.Refusal, refusal.Check.Check}
-use Rattle.jobs.specs.{Refusals.onPass, Jobs.noJob, Jobs.setOf, Checks.recordCheck, Checks.anyRecord}
+use Rattle.jobs.specs.{Refusals.onPass, Jobs.job, Jobs.noJob, Jobs.setOf, Checks.recordCheck, Checks.anyRecord}
 use Rattle.table.specs.declared.reading.Reading.{Reading}
 use Rattle.table.specs.{Lines.linesOf, Rows.maxColumns, Rows.Row, Rows.row, Rows.noRow, Rows.rowOf}
 
@@ -15,16 +15,7 @@ maxText = 4096
 
 -- The job that a record's values describe, in the order of the columns.
 abbrev pub jobOf : List ℕ → Job
-jobOf values =
-    record {
-      chain = getD values 0 0;
-      job = getD values 1 0;
-      release = getD values 2 0;
-      priority = getD values 3 0;
-      least = getD values 4 0;
-      most = getD values 5 0;
-      deadline = getD values 6 0;
-    }
+jobOf values = let at = getD values in job (at 0 0) (at 1 0) (at 2 0) (at 3 0) (at 4 0) (at 5 0) (at 6 0)
 
 -- The answer to a refused table: the refusal, and no jobs.
 abbrev pub refusedWith : Refusal → Reading
