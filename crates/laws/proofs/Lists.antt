@@ -5,7 +5,7 @@ use mathlib.Core.List.{List, [], _∷_, _++_, append-assoc, map}
 use mathlib.Core.Path.{_≡_, refl, sym, _∙_}
 use native.Mathlib.Omega.{arith}
 use lib.ListN.{length, length-append, length-map, length-drop, length-replicate, take, drop, getD, set, replicate}
-use lib.Seq.{take-all, take-append-seam, set-append-seam}
+use lib.Seq.{take-all, set-append-seam}
 use Rattle.laws.specs.Words.{lastOf, padded}
 
 -- the length of an array of structs, as the borrow checker has it
