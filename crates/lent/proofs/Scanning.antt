@@ -1,43 +1,25 @@
 -- The scan over records: what it carries from one record to the next is what the table has there. Assumes nothing.
-use Prim.Native.Nat.{ℕ, zero, suc, _+_, _-_, _≤_, max, min}
-use mathlib.Core.Path.{_≡_, refl}
-use mathlib.Core.Bool.{Bool, true, false, cond, _&&_}
+use Prim.Native.Nat.{ℕ, zero, suc, _+_, _-_, max, min}
+use mathlib.Core.Path.{_≡_, refl, sym}
+use mathlib.Core.Bool.{Bool, true, false, cond, _&&_, true≢false}
 use mathlib.Core.List.{List}
-use mathlib.Core.Logic.{_≢_}
 use native.Mathlib.Omega.{arith}
 use native.Mathlib.Numerals.{add-one}
-use lib.Dec.{leb}
-use borrow.Author.Tests.{leb-true, leb-false, le-leb, lt-ltb, eq-eqb, ne-eqb}
-use Rattle.laws.proofs.Tests.{by-test, by-equal, same-test, and-left, and-right, and-both}
+use lib.Dec.{leb, ltb, eqb}
+use borrow.Author.Tests.{leb-true, le-leb, lt-ltb, eqb-true, eqb-false}
+use Rattle.laws.proofs.Tests.{by-test, same-test, and-left, and-right, and-both}
 use Rattle.jobs.specs.declared.job.Job.{Job}
-use Rattle.jobs.specs.Jobs.{jobAt}
+use Rattle.jobs.specs.Jobs.{jobAt, urgencyOf}
 use Rattle.theory.specs.Table.{Table, joined, effectiveEarliest, given, tableOf}
 use Rattle.theory.proofs.Rules.{first-after}
 use Rattle.theory.proofs.Releases.{release-first, release-next}
 use Rattle.machine.specs.declared.state.State.{State}
-use Rattle.lent.specs.declared.scan.Scan.{Scan}
-use Rattle.machine.specs.States.{predecessorComplete, ready}
-use Rattle.machine.specs.Pick.{pickUpTo, bestOf}
+use Rattle.machine.specs.States.{complete, predecessorComplete, ready}
+use Rattle.machine.specs.Pick.{better, pickUpTo, bestOf}
 use Rattle.machine.specs.Private.{considered}
-use Rattle.lent.specs.Scans.{scanOf}
-use Rattle.lent.specs.Private.{follows, releasedBy, sinceBy, readyBy, bestBy, lookedAt}
 use Rattle.machine.proofs.Picks.{considered-next}
-
--- a released record
-module _ (scan : Scan) (j : Job) (u time : ℕ) (h : releasedBy scan j u time ≡ true) where
-  pub released-own : j .release ≤ time
-  unfolding releasedBy
-  released-own = by-follows (follows scan j u) h
-    where
-      by-follows : (b : Bool) → cond b (leb (j .release) time && (scan .released && leb (scan .least) (scan .since))) (leb (j .release) time) ≡ true → j .release ≤ time
-      by-follows true q = leb-true _ _ (and-left (leb (j .release) time) (scan .released && leb (scan .least) (scan .since)) q)
-      by-follows false q = leb-true _ _ q
-
-  pub released-chain : follows scan j u ≡ true → scan .least ≤ scan .since
-  unfolding releasedBy
-  released-chain f =
-      let q = rw f at h in
-      leb-true _ _ (and-right (scan .released) (leb (scan .least) (scan .since)) (and-right (leb (j .release) time) (scan .released && leb (scan .least) (scan .since)) q))
+use Rattle.lent.specs.declared.scan.Scan.{Scan}
+use Rattle.lent.specs.Scans.{scanOf}
 
 -- ---- arithmetic of effective releases
 released-both : (r b l time : ℕ) → leb r time && (leb b time && leb l (time - b)) ≡ leb (max r (b + l)) time
@@ -53,86 +35,107 @@ released-both r b l time =
     let both = leb-true (max r (b + l)) time h in
     and-both (leb r time) (leb b time && leb l (time - b)) (le-leb r time (omega arith)) (and-both (leb b time) (leb l (time - b)) (le-leb b time (omega arith)) (le-leb l (time - b) (omega arith))))
 
-since-cut : (r time : ℕ) → cond (leb r time) (time - r) 0 ≡ time - r
-since-cut r time = by-test (leb r time) (λ h. rw h) (λ h. rw h (omega (arith, leb-false r time h)))
+-- ---- a record of the chain of the one before it, and the first of a chain
+abbrev follows : Scan → Job → ℕ → Bool
+follows scan job u = ltb 0 u && eqb (scan .last) (job .chain)
 
-since-both : (r b l time : ℕ) → cond (leb (max r (b + l)) time) (min (time - r) (time - b - l)) 0 ≡ time - max r (b + l)
-since-both r b l time =
-    by-test (leb (max r (b + l)) time)
-    (λ h. rw h (omega (arith, leb-true (max r (b + l)) time h)))
-    (λ h. rw h (omega (arith, leb-false (max r (b + l)) time h)))
-
--- ---- the first record, and one after another
 module _ (js : List Job) (times : List ℕ) (s : State) where
   abbrev t : Table
   t = tableOf js
 
-  first-follows : follows (scanOf js times s 0) (jobAt js 0) 0 ≡ false
-  unfolding follows
-  first-follows = refl
+  -- the scan has the effective release of the one before, as told by the time
+  record Following (scan : Scan) (job : Job) (u : ℕ) : Type 0 where
+    before : ℕ
+    earliest : t .earliest u ≡ max (job .release) (before + scan .least)
+    released : scan .released ≡ leb before (s .time)
+    since : scan .since ≡ s .time - before
+    predecessor : predecessorComplete t times (s .work) u ≡ scan .done
 
-  first-released : releasedBy (scanOf js times s 0) (jobAt js 0) 0 (s .time) ≡ leb (t .earliest 0) (s .time)
-  unfolding releasedBy effectiveEarliest
-  first-released = rw first-follows
+  record Leading (job : Job) (u : ℕ) : Type 0 where
+    earliest : t .earliest u ≡ job .release
+    predecessor : predecessorComplete t times (s .work) u ≡ true
 
-  first-since : sinceBy (scanOf js times s 0) (jobAt js 0) 0 (s .time) ≡ s .time - t .earliest 0
-  unfolding sinceBy effectiveEarliest
-  first-since = rw (first-released, first-follows) (unfold effectiveEarliest in since-cut (jobAt js 0 .release) (s .time))
+  is-following : (u : ℕ) → follows (scanOf js times s u) (jobAt js u) u ≡ true → Following (scanOf js times s u) (jobAt js u) u
+  unfolding scanOf predecessorComplete joined
+  is-following zero h = absurd (true≢false (sym h))
+  is-following (suc v) h =
+      let same : eqb (t .chain v) (t .chain (suc v)) ≡ true = and-right (ltb 0 (suc v)) (eqb (t .chain v) (t .chain (suc v))) h in
+      record {
+        before = t .earliest v;
+        earliest = release-next (given js) v (eqb-true (t .chain v) (t .chain (suc v)) same);
+        released = refl;
+        since = refl;
+        predecessor = rw same;
+      }
 
-  first-ready : readyBy (scanOf js times s 0) (jobAt js 0) 0 times s ≡ ready t times s 0
-  unfolding readyBy ready predecessorComplete
-  first-ready = rw (first-released, first-follows)
+  is-leading : (u : ℕ) → follows (scanOf js times s u) (jobAt js u) u ≡ false → Leading (jobAt js u) u
+  unfolding scanOf predecessorComplete joined
+  is-leading zero h = record { earliest = unfold effectiveEarliest in refl; predecessor = refl }
+  is-leading (suc v) h =
+      let other : eqb (t .chain v) (t .chain (suc v)) ≡ false = rw (lt-ltb 0 (suc v) (omega arith)) at h in
+      record {
+        earliest = release-first (given js) (suc v) (first-after (given js) v (eqb-false (t .chain v) (t .chain (suc v)) other));
+        predecessor = rw other;
+      }
 
-  module _ (v : ℕ) where
-    abbrev here : Scan
-    here = scanOf js times s (suc v)
+  released-by : (scan : Scan) (job : Job) (u : ℕ) → Following scan job u
+      → leb (job .release) (s .time) && (scan .released && leb (scan .least) (scan .since)) ≡ leb (t .earliest u) (s .time)
+  released-by scan job u f =
+      rw (f .earliest, f .released, f .since) (released-both (job .release) (f .before) (scan .least) (s .time))
 
-    next-follows : follows here (jobAt js (suc v)) (suc v) ≡ joined t v
-    unfolding follows scanOf joined
-    next-follows = rw (lt-ltb 0 (suc v) (omega arith))
+  best-so-far : (u : ℕ) → scanOf js times s u .best ≡ bestOf t (pickUpTo t times s u)
+  unfolding scanOf pickUpTo
+  best-so-far zero = refl
+  best-so-far (suc v) = refl
 
-    same-chain : t .chain v ≡ t .chain (suc v) → joined t v ≡ true
-    unfolding joined
-    same-chain e = eq-eqb (t .chain v) (t .chain (suc v)) e
+  -- a record that is not ready
+  pub unready-early : (u : ℕ) → leb (t .earliest u) (s .time) ≡ false → false ≡ ready t times s u
+  unfolding ready
+  unready-early u e = rw e
 
-    other-chain : t .chain v ≢ t .chain (suc v) → joined t v ≡ false
-    unfolding joined
-    other-chain ne = ne-eqb (t .chain v) (t .chain (suc v)) ne
+  pub unready-complete : (u : ℕ) → complete times (s .work) u ≡ true → false ≡ ready t times s u
+  unfolding ready
+  unready-complete u c = by-test (leb (t .earliest u) (s .time)) (λ e. rw (e, c)) (λ e. rw e)
 
-    next-released : releasedBy here (jobAt js (suc v)) (suc v) (s .time) ≡ leb (t .earliest (suc v)) (s .time)
-    unfolding releasedBy scanOf
-    next-released =
-        by-equal (t .chain v) (t .chain (suc v))
-        (λ e. rw (next-follows, same-chain e, release-next (given js) v e) (released-both (jobAt js (suc v) .release) (t .earliest v) (t .least v) (s .time)))
-        (λ ne. rw (next-follows, other-chain ne, release-first (given js) (suc v) (first-after (given js) v ne)))
+-- ---- what the scan says of a record
+module _ (js : List Job) (times : List ℕ) (s : State) {scan : Scan} {job : Job} (u : ℕ) (scanned : scan ≡ scanOf js times s u) (here : job ≡ jobAt js u) where
+  module _ (h : follows scan job u ≡ true) where
+    following : Following js times s scan job u
+    following = rw (scanned, here) (is-following js times s u (rw (scanned, here) at h))
 
-    next-since : sinceBy here (jobAt js (suc v)) (suc v) (s .time) ≡ s .time - t .earliest (suc v)
-    unfolding sinceBy scanOf
-    next-since =
-        by-equal (t .chain v) (t .chain (suc v))
-        (λ e. rw (next-released, next-follows, same-chain e, release-next (given js) v e) (since-both (jobAt js (suc v) .release) (t .earliest v) (t .least v) (s .time)))
-        (λ ne. rw (next-released, next-follows, other-chain ne, release-first (given js) (suc v) (first-after (given js) v ne)) (since-cut (jobAt js (suc v) .release) (s .time)))
+    pub released-following : leb (job .release) (s .time) && (scan .released && leb (scan .least) (scan .since)) ≡ leb (tableOf js .earliest u) (s .time)
+    released-following = released-by js times s scan job u following
 
-    next-ready : readyBy here (jobAt js (suc v)) (suc v) times s ≡ ready t times s (suc v)
-    unfolding readyBy ready predecessorComplete
-    next-ready = rw (next-released, next-follows) (unfold scanOf in refl)
+    pub since-following : min (s .time - job .release) (scan .since - scan .least) ≡ s .time - tableOf js .earliest u
+    since-following = omega (arith, following .earliest, following .since)
 
-  best-is : (u : ℕ) → scanOf js times s u .best ≡ bestOf t (pickUpTo t times s u)
-  unfolding scanOf
-  best-is zero = unfold pickUpTo in refl
-  best-is (suc v) = refl
+  module _ (h : follows scan job u ≡ false) where
+    leading : Leading js times s job u
+    leading = rw here (is-leading js times s u (rw (scanned, here) at h))
 
-  best-next : (u : ℕ) → readyBy (scanOf js times s u) (jobAt js u) u times s ≡ ready t times s u
-      → bestBy (scanOf js times s u) (jobAt js u) u times s ≡ bestOf t (pickUpTo t times s (suc u))
-  unfolding bestBy considered
-  best-next u e = rw (e, best-is u, ← add-one u) (considered-next t times s (bestOf t (pickUpTo t times s u)) u refl)
+    pub released-leading : leb (job .release) (s .time) ≡ leb (tableOf js .earliest u) (s .time)
+    released-leading = rw (leading .earliest)
 
-  looked : (u : ℕ) → releasedBy (scanOf js times s u) (jobAt js u) u (s .time) ≡ leb (t .earliest u) (s .time)
-      → sinceBy (scanOf js times s u) (jobAt js u) u (s .time) ≡ s .time - t .earliest u
-      → readyBy (scanOf js times s u) (jobAt js u) u times s ≡ ready t times s u
-      → lookedAt (scanOf js times s u) (jobAt js u) u times s ≡ scanOf js times s (suc u)
-  looked u r a b = unfold lookedAt in rw (best-next u b, r, a) (unfold scanOf in refl)
+    pub since-leading : s .time - job .release ≡ s .time - tableOf js .earliest u
+    since-leading = rw (leading .earliest)
 
-  pub looked-next : (u : ℕ) → lookedAt (scanOf js times s u) (jobAt js u) u times s ≡ scanOf js times s (suc u)
-  looked-next zero = looked 0 first-released first-since first-ready
-  looked-next (suc v) = looked (suc v) (next-released v) (next-since v) (next-ready v)
+  -- ---- it is ready
+  module _ (e : leb (tableOf js .earliest u) (s .time) ≡ true) (c : complete times (s .work) u ≡ false) where
+    pub ready-following : follows scan job u ≡ true → scan .done ≡ ready (tableOf js) times s u
+    unfolding ready
+    ready-following h = rw (e, c, following h .predecessor)
+
+    pub ready-leading : follows scan job u ≡ false → true ≡ ready (tableOf js) times s u
+    unfolding ready
+    ready-leading h = rw (e, c, leading h .predecessor)
+
+  -- ---- the best after it
+  best-next : cond (ready (tableOf js) times s u) (better (scan .best) u (urgencyOf job) (job .chain)) (scan .best) ≡ bestOf (tableOf js) (pickUpTo (tableOf js) times s (suc u))
+  unfolding considered
+  best-next = rw (scanned, here, ← add-one u) (considered-next (tableOf js) times s (scanOf js times s u .best) u (best-so-far js times s u))
+
+  pub best-ready : ready (tableOf js) times s u ≡ true → better (scan .best) u (urgencyOf job) (job .chain) ≡ bestOf (tableOf js) (pickUpTo (tableOf js) times s (suc u))
+  best-ready r = rw r at best-next
+
+  pub best-unready : ready (tableOf js) times s u ≡ false → scan .best ≡ bestOf (tableOf js) (pickUpTo (tableOf js) times s (suc u))
+  best-unready r = rw r at best-next

@@ -1,7 +1,11 @@
 // The scan over lent job records, which changes none.
-ghost use Rattle.laws.specs.Words.{_≡_, length, getD};
+// What is promised of one record holds for any jobs js, where the scan is of those before the place `at` and the record is the one there.
+ghost use Rattle.laws.specs.Words.{_≡_, ℕ, suc, _-_, _&&_, List, length, getD, leb, ltb, eqb};
+ghost use Rattle.jobs.specs.Jobs.{jobAt};
+ghost use Rattle.theory.specs.Table.{tableOf};
+ghost use Rattle.machine.specs.States.{ready};
+ghost use Rattle.machine.specs.Pick.{pickUpTo, bestOf};
 ghost use Rattle.lent.specs.Scans.{scanOf};
-ghost use Rattle.lent.specs.Private.{follows, releasedBy, sinceBy, readyBy, bestBy, lookedAt};
 use jobs::job::Job;
 use machine::pick::Best;
 use machine::pick::better_of;
@@ -24,16 +28,26 @@ fn number_at(numbers: &[u64], at: usize) -> u64
     if at < numbers.len() { numbers[at] } else { 0 }
 }
 
+// The first number minus the second, 0 where that is larger.
+fn minus(a: u64, b: u64) -> u64
+    ensures { λ r. ⌜ r ≡ a - b ⌝ }
+{
+    if a < b {
+        return 0;
+    }
+    a - b
+}
+
 // Whether a record is of the chain of the one before it.
 fn is_following(scan: Scan, job: Job, at: usize) -> bool
-    ensures { λ r. ⌜ r ≡ follows scan job at ⌝ }
+    ensures { λ r. ⌜ r ≡ ltb 0 at && eqb (scan .last) (job .chain) ⌝ }
 {
     (0 < at) & (scan.last == job.chain)
 }
 
 // Whether the effective release of a record is at most the time.
 fn is_released(scan: Scan, job: Job, at: usize, time: u64) -> bool
-    ensures { λ r. ⌜ r ≡ releasedBy scan job at time ⌝ }
+    ensures { λ r. ⌜ ((js : List Job) (times : List ℕ) (s : State) → scan ≡ scanOf js times s at → job ≡ jobAt js at → time ≡ s .time → r ≡ leb (tableOf js .earliest at) time) ⌝ }
 {
     if !is_following(scan, job, at) {
         return job.release <= time;
@@ -43,16 +57,13 @@ fn is_released(scan: Scan, job: Job, at: usize, time: u64) -> bool
 
 // The ticks since the effective release of a record, 0 where it is not released.
 fn since_release(scan: Scan, job: Job, at: usize, time: u64) -> u64
-    ensures { λ r. ⌜ r ≡ sinceBy scan job at time ⌝ }
+    ensures { λ r. ⌜ ((js : List Job) (times : List ℕ) (s : State) → scan ≡ scanOf js times s at → job ≡ jobAt js at → time ≡ s .time → r ≡ time - tableOf js .earliest at) ⌝ }
 {
-    if !is_released(scan, job, at, time) {
-        return 0;
-    }
-    let own = time - job.release;
+    let own = minus(time, job.release);
     if !is_following(scan, job, at) {
         return own;
     }
-    let chain = scan.since - scan.least;
+    let chain = minus(scan.since, scan.least);
     if chain < own {
         return chain;
     }
@@ -61,7 +72,7 @@ fn since_release(scan: Scan, job: Job, at: usize, time: u64) -> u64
 
 // Whether a record is ready.
 fn is_ready_record(scan: Scan, job: Job, at: usize, times: &[u64], state: State) -> bool
-    ensures { λ r. ⌜ r ≡ readyBy scan job at (now (times .entry)) state ⌝ }
+    ensures { λ r. ⌜ ((js : List Job) → scan ≡ scanOf js (now (times .entry)) state at → job ≡ jobAt js at → r ≡ ready (tableOf js) (now (times .entry)) state at) ⌝ }
 {
     let work = state.work;
     if !is_released(scan, job, at, state.time) {
@@ -78,7 +89,7 @@ fn is_ready_record(scan: Scan, job: Job, at: usize, times: &[u64], state: State)
 
 // The best of a scan after one more record.
 fn best_after(scan: Scan, job: Job, at: usize, times: &[u64], state: State) -> Best
-    ensures { λ r. ⌜ r ≡ bestBy scan job at (now (times .entry)) state ⌝ }
+    ensures { λ r. ⌜ ((js : List Job) → scan ≡ scanOf js (now (times .entry)) state at → job ≡ jobAt js at → r ≡ bestOf (tableOf js) (pickUpTo (tableOf js) (now (times .entry)) state (suc at))) ⌝ }
 {
     if is_ready_record(scan, job, at, times, state) {
         return better_of(scan.best, at, Job::urgency(job), job.chain);
@@ -88,7 +99,7 @@ fn best_after(scan: Scan, job: Job, at: usize, times: &[u64], state: State) -> B
 
 // One record is looked at.
 fn look_at(scan: Scan, job: Job, at: usize, times: &[u64], state: State) -> Scan
-    ensures { λ r. ⌜ r ≡ lookedAt scan job at (now (times .entry)) state ⌝ }
+    ensures { λ r. ⌜ ((js : List Job) → scan ≡ scanOf js (now (times .entry)) state at → job ≡ jobAt js at → r ≡ scanOf js (now (times .entry)) state (suc at)) ⌝ }
 {
     let work = state.work;
     let done = number_at(&work, at) == number_at(times, at);

@@ -1,6 +1,6 @@
 -- The lines of a text: its first line, what stands behind that, and a place inside it. Assumes nothing.
 use Prim.Native.Nat.{ℕ, zero, suc, _-_, _≤_, _<_}
-use mathlib.Core.Bool.{true, false}
+use mathlib.Core.Bool.{true, false, cond}
 use mathlib.Core.List.{List, [], _∷_}
 use mathlib.Core.Path.{_≡_, refl, sym, ap, _∙_}
 use mathlib.Core.Logic.{_⊎_, inl, inr}
@@ -9,11 +9,17 @@ use lib.ListN.{length, take, drop, getD}
 use lib.Dec.{eqb}
 use borrow.Author.Tests.{eq-eqb, ne-eqb}
 use Rattle.laws.proofs.Tests.{by-test}
+use Rattle.table.specs.declared.line.End.{End}
 use Rattle.table.specs.declared.line.End.the-variants.{Here, Elsewhere}
 use Rattle.table.specs.Lines.{isBreak, firstLine, afterLine, linesUpTo, linesOf}
-use Rattle.table.specs.Private.{endOf}
+use Rattle.table.specs.Tables.{same}
 
 -- ---- a byte that no break starts at belongs to the line
+pub no-break : (b c : ℕ) → (b ≡ 13 → ⊥) ⊎ (c ≡ 10 → ⊥) → isBreak b c ≡ false
+unfolding isBreak
+no-break b c (inl d) = rw (ne-eqb b 13 d)
+no-break b c (inr d) = rw (ne-eqb c 10 d) (by-test (eqb b 13) (λ t. rw t) (λ t. rw t))
+
 pub first-cons : (b c : ℕ) (text : List ℕ) → isBreak b c ≡ false → firstLine (b ∷ c ∷ text) ≡ b ∷ firstLine (c ∷ text)
 unfolding firstLine
 first-cons b c text e = rw e
@@ -110,51 +116,48 @@ first-take (b ∷ []) = refl
 first-take (b ∷ c ∷ text) = by-test (isBreak b c) (λ t. rw t) (λ t. rw t (ap (λ (l : List ℕ). b ∷ l) (first-take (c ∷ text))))
 
 -- ---- where the line ends
+abbrev pub endOf : List ℕ → End
+endOf text = cond (same (firstLine text) []) (Here (lineLength text)) Elsewhere
+
 pub end-empty : (text : List ℕ) → firstLine text ≡ [] → endOf text ≡ Here (lineLength text)
-unfolding endOf firstLine afterLine
-end-empty [] e = refl
-end-empty (b ∷ []) e = absurd (omega (arith, ap length e))
-end-empty (b ∷ c ∷ text) e =
-    by-test (isBreak b c)
-    (λ t. rw t (ap Here (omega arith)))
-    (λ t. absurd (omega (arith, ap length (rw t at e))))
+unfolding same
+end-empty text e = rw e
+
+same-none : (line : List ℕ) → 0 < length line → same line [] ≡ false
+unfolding same
+same-none [] h = absurd (omega arith)
+same-none (b ∷ line) h = refl
 
 pub end-elsewhere : (text : List ℕ) → 0 < length (firstLine text) → endOf text ≡ Elsewhere
-unfolding endOf firstLine
-end-elsewhere [] h = absurd (omega arith)
-end-elsewhere (b ∷ []) h = refl
-end-elsewhere (b ∷ c ∷ text) h = by-test (isBreak b c) (λ t. absurd (omega (arith, rw t at h))) (λ t. rw t)
+end-elsewhere text h = rw (same-none (firstLine text) h)
 
 pub end-within : (text : List ℕ) (n : ℕ) → endOf text ≡ Here n → n ≤ length text
-unfolding endOf
-end-within [] n e = let z : 0 ≡ n = cc in omega arith
-end-within (b ∷ []) n e = let z : _≡_ {A = ℕ} 0 1 = cc in absurd (omega arith)
-end-within (b ∷ c ∷ text) n e =
-    by-test (isBreak b c)
-    (λ t. let z : 2 ≡ n = cc (rw t at e) in omega arith)
+end-within text n e =
+    by-test (same (firstLine text) [])
+    (λ t. let z : lineLength text ≡ n = cc (rw t at e) in omega arith)
     (λ t. let z : _≡_ {A = ℕ} 0 1 = cc (rw t at e) in absurd (omega arith))
 
 -- ---- the end of a line byte by byte
 pub end-none : (text : List ℕ) → length text ≡ 0 → endOf text ≡ Here 0
-unfolding endOf
+unfolding same firstLine afterLine
 end-none [] e = refl
 end-none (b ∷ text) e = absurd (omega arith)
 
 pub end-short : (text : List ℕ) → (length text ≡ 0 → ⊥) → length text < 2 → endOf text ≡ Elsewhere
-unfolding endOf
+unfolding same firstLine
 end-short [] h k = absurd (h refl)
 end-short (b ∷ []) h k = refl
 end-short (b ∷ c ∷ text) h k = absurd (omega arith)
 
 pub end-other : (text : List ℕ) → 2 ≤ length text → (getD text 0 0 ≡ 13 → ⊥) ⊎ (getD text 1 0 ≡ 10 → ⊥) → endOf text ≡ Elsewhere
-unfolding endOf isBreak
 end-other [] h d = absurd (omega arith)
 end-other (b ∷ []) h d = absurd (omega arith)
-end-other (b ∷ c ∷ text) h (inl d) = rw (ne-eqb b 13 d)
-end-other (b ∷ c ∷ text) h (inr d) = rw (ne-eqb c 10 d) (by-test (eqb b 13) (λ t. rw t) (λ t. rw t))
+end-other (b ∷ c ∷ text) h d = end-elsewhere (b ∷ c ∷ text) (omega (arith, ap length (first-cons b c text (no-break b c d))))
 
 pub end-break : (text : List ℕ) → 2 ≤ length text → getD text 0 0 ≡ 13 → getD text 1 0 ≡ 10 → endOf text ≡ Here 2
-unfolding endOf isBreak
+unfolding isBreak
 end-break [] h d e = absurd (omega arith)
 end-break (b ∷ []) h d e = absurd (omega arith)
-end-break (b ∷ c ∷ text) h d e = rw (eq-eqb b 13 d, eq-eqb c 10 e)
+end-break (b ∷ c ∷ text) h d e =
+    let t : isBreak b c ≡ true = rw (eq-eqb b 13 d, eq-eqb c 10 e) in
+    end-empty (b ∷ c ∷ text) (first-break b c text t) ∙ ap Here (omega (arith, ap length (after-break b c text t)))

@@ -11,18 +11,28 @@ use Rattle.laws.specs.Words.{padded}
 use Rattle.laws.proofs.Lists.{length-padded, padded-snoc}
 use Rattle.decimal.specs.declared.field.Field.{Field}
 use Rattle.decimal.specs.declared.field.Field.the-variants.{Number, NoNumber}
-use Rattle.jobs.specs.declared.refusal.Check.the-variants.{Passed}
+use Rattle.jobs.specs.declared.refusal.Refusal.the-variants.{MalformedLine}
+use Rattle.jobs.specs.declared.refusal.Check.the-variants.{Passed, Refused}
 use Rattle.table.specs.declared.line.End.{End}
 use Rattle.table.specs.declared.line.End.the-variants.{Here, Elsewhere}
 use Rattle.table.specs.declared.line.Line.{Line}
 use Rattle.table.specs.Lines.{firstLine}
-use Rattle.table.specs.Private.{endOf, malformedLine, lineWith, lineOf}
-use Rattle.table.specs.Rows.{maxColumns, columnOf, Row, row, noRow, fieldsIn}
-use Rattle.table.proofs.Lines.{lineLength, after-within, inside, end-empty, end-elsewhere, end-within}
+use Rattle.table.specs.Rows.{maxColumns, columnOf, Row, row, noRow, fieldsIn, rowOf}
+use Rattle.table.proofs.Lines.{lineLength, endOf, after-within, inside, end-empty, end-elsewhere, end-within}
 use Rattle.table.proofs.Columns.{column-line, column-within}
 
+-- ---- a line that passed, one that is not so many fields, and the first line of a text
 abbrev passedLine : List ℕ → ℕ → Line
 passedLine values n = record { check = Passed; values = values; length = n }
+
+abbrev pub malformedLine : Line
+malformedLine = record { check = Refused MalformedLine; values = padded maxColumns 0 []; length = 0 }
+
+abbrev pub lineWith : Row → ℕ → Line
+lineWith r n = elim r [ row values ↦ passedLine (padded maxColumns 0 values) n | noRow ↦ malformedLine ]
+
+abbrev pub lineOf : ℕ → List ℕ → Line
+lineOf columns text = lineWith (rowOf columns (firstLine text)) (lineLength text)
 
 -- ---- reading on after some fields and `at` bytes
 abbrev ended : End → List ℕ → ℕ → Line
@@ -85,7 +95,6 @@ first-line (suc k) before at text =
     one-field k before at text (columnOf (length before) text) refl (λ v n. first-line k (before ++ (v ∷ [])) (at + n) (drop n text))
 
 pub read-line : (columns : ℕ) (text : List ℕ) → readOn columns [] 0 text ≡ lineOf columns text
-unfolding lineOf
 read-line columns text = first-line columns [] 0 text ∙ ap (lineWith (fieldsIn columns [] (firstLine text))) (zero-add (lineLength text))
 
 -- ---- the fields before place k are read into the values, and what follows them decides

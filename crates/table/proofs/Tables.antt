@@ -11,8 +11,8 @@ use Rattle.jobs.specs.declared.refusal.Refusal.the-variants.{TextTooLong, NotHe
 use Rattle.table.specs.declared.line.End.the-variants.{Here, Elsewhere}
 use Rattle.table.specs.Lines.{firstLine, afterLine, linesUpTo, linesOf}
 use Rattle.table.specs.Tables.{header, maxText, refusedWith, recordsFrom, same, underHeader, readingOf}
-use Rattle.table.specs.Private.{headerEnd}
 use Rattle.table.proofs.Lines.{lineLength, line-within, after-drop, lines-cons}
+use Rattle.table.proofs.Headers.{headerEnd}
 
 pub too-long : (text : List ℕ) → maxText < length text → refusedWith TextTooLong ≡ readingOf text
 unfolding readingOf
@@ -29,14 +29,12 @@ module _ (text : List ℕ) (short : length text ≤ maxText) where
   table-by = rw (le-leb (length text) maxText short) (by-header text)
 
   pub no-header : headerEnd text ≡ Elsewhere → refusedWith NotHeader ≡ readingOf text
-  unfolding headerEnd
   no-header e =
       by-test (same (firstLine text) header)
       (λ t. let z : _≡_ {A = ℕ} 0 1 = cc (rw t at e) in absurd (omega arith))
       (λ t. sym (table-by ∙ rw t))
 
   pub under-header : (n : ℕ) → headerEnd text ≡ Here n → (n ≤ length text) × (recordsFrom [] (linesOf (drop n text)) ≡ readingOf text)
-  unfolding headerEnd
   under-header n e =
       by-test (same (firstLine text) header)
       (λ t.

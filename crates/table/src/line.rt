@@ -1,7 +1,8 @@
 // One line of a table after the first: fields with single commas.
-ghost use Rattle.laws.specs.Words.{_≡_, _≤_};
-ghost use Rattle.table.specs.Private.{endOf, malformedLine, lineOf};
-ghost use Rattle.table.specs.Rows.{maxColumns, columnOf};
+ghost use Rattle.laws.specs.Words.{_≡_, _≤_, _-_, cond, [], length, padded};
+ghost use Rattle.table.specs.Lines.{firstLine, afterLine};
+ghost use Rattle.table.specs.Rows.{maxColumns, columnOf, row, noRow, rowOf};
+ghost use Rattle.table.specs.Tables.{same};
 use decimal::field::Field;
 use decimal::field::read_field;
 use jobs::refusal::Check;
@@ -45,9 +46,9 @@ fn read_column(rest: &[u8], k: usize) -> Field
     }
 }
 
-// A line ends at the end of the text, and before a CR LF.
+// Whether the first line of rest is empty, which it is at the end of the text and before a CR LF, and how many bytes its end takes.
 pub(crate) fn read_end(rest: &[u8]) -> End
-    ensures { λ r. ⌜ r ≡ endOf (now (rest .entry)) ⌝ }
+    ensures { λ r. let bytes = now (rest .entry) in ⌜ r ≡ cond (same (firstLine bytes) []) (End.Here (length bytes - length (afterLine bytes))) End.Elsewhere ⌝ }
 {
     if rest.len() == 0 {
         return End::Here { length: 0 };
@@ -64,35 +65,29 @@ pub(crate) fn read_end(rest: &[u8]) -> End
     End::Here { length: 2 }
 }
 
-// What is answered of a line that is not so many fields.
-fn malformed() -> Line
-    ensures { λ r. ⌜ r ≡ malformedLine ⌝ }
-{
-    Line {
-        check: Check::Refused(Refusal::MalformedLine),
-        values: [0u64; MAX_COLUMNS],
-        length: 0,
-    }
-}
-
 // The first line of rest, where it is so many fields; each is read from where the last one ended.
 pub(crate) fn read_line(rest: &[u8], columns: usize) -> Line
     requires { ⌜ columns ≤ maxColumns ⌝ }
-    ensures { λ r. ⌜ r ≡ lineOf columns (now (rest .entry)) ⌝ }
+    ensures { λ r. let bytes = now (rest .entry) in ⌜ r ≡ elim (rowOf columns (firstLine bytes)) [ row values ↦ record { check = Check.Passed; values = padded maxColumns 0 values; length = length bytes - length (afterLine bytes) } | noRow ↦ record { check = Check.Refused Refusal.MalformedLine; values = padded maxColumns 0 []; length = 0 } ] ⌝ }
 {
     let mut values = [0u64; MAX_COLUMNS];
+    let malformed = Line {
+        check: Check::Refused(Refusal::MalformedLine),
+        values,
+        length: 0,
+    };
     let mut at: usize = 0;
     let mut k: usize = 0;
     while k < columns {
         let Field::Number { value, length } = read_column(&rest[at..], k) else {
-            return malformed();
+            return malformed;
         };
         values[k] = value;
         at += length;
         k += 1;
     }
     let End::Here { length } = read_end(&rest[at..]) else {
-        return malformed();
+        return malformed;
     };
     Line {
         check: Check::Passed,

@@ -1,7 +1,7 @@
 -- `best_after` meets its contract. Assumes nothing.
 use mathlib.Core.Path.{sym, _∙_}
 use borrow.Author.Needs.{needs}
-use Rattle.lent.specs.Private.{bestBy}
+use Rattle.lent.proofs.Scanning.{best-ready, best-unready}
 use Rattle.lent.proofs.scan.best_after.Statement.{statement}
 use Rattle.lent.proofs.scan.best_after.Tie as tie
 
@@ -15,14 +15,12 @@ better-of-requires : tie.Need-better-of-requires
 better-of-requires c κs = search needs
 
 returns : tie.Need-returns
-unfolding bestBy
-returns c =
-    simp (sym (c .before .before .before .is-ready-record .ensures) ∙ c .before .before .if1 .taken)
-    (rw (c .before .urgency .ensures) at (c .better-of .ensures))
+returns c js e j =
+    rw (c .before .urgency .ensures) at (c .better-of .ensures)
+    ∙ best-ready js _ _ _ e j (sym (c .before .before .before .is-ready-record .ensures js e j) ∙ c .before .before .if1 .taken)
 
 returns-2 : tie.Need-returns-2
-unfolding bestBy
-returns-2 c = simp (sym (c .before .before .is-ready-record .ensures) ∙ c .before .if1 .left)
+returns-2 c js e j = best-unready js _ _ _ e j (sym (c .before .before .is-ready-record .ensures js e j) ∙ c .before .if1 .left)
 
 pub best-after-spec : {M : Type 1} → statement M
 best-after-spec =

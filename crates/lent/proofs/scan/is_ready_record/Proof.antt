@@ -1,9 +1,9 @@
 -- `is_ready_record` meets its contract. Assumes nothing.
-use mathlib.Core.Path.{sym, _∙_}
+use mathlib.Core.Path.{refl, sym, _∙_}
 use borrow.Author.Tests.{not-true, not-false}
 use borrow.Author.Needs.{needs}
-use Rattle.lent.specs.Private.{readyBy}
 use Rattle.machine.proofs.Readiness.{eq-complete, ne-complete}
+use Rattle.lent.proofs.Scanning.{unready-early, unready-complete, ready-following, ready-leading}
 use Rattle.lent.proofs.scan.is_ready_record.Statement.{statement}
 use Rattle.lent.proofs.scan.is_ready_record.Tie as tie
 
@@ -11,8 +11,7 @@ is-released-requires : tie.Need-is-released-requires
 is-released-requires c κs = search needs
 
 returns : tie.Need-returns
-unfolding readyBy
-returns c = simp (sym (c .before .is-released .ensures) ∙ not-true _ (c .if1 .taken))
+returns c js e j = unready-early js _ _ _ (sym (c .before .is-released .ensures js _ _ e j refl) ∙ not-true _ (c .if1 .taken))
 
 slice-aggregate-number-at : tie.Need-slice-aggregate-number-at
 slice-aggregate-number-at c = search needs
@@ -24,19 +23,26 @@ number-at-requires-2 : tie.Need-number-at-requires-2
 number-at-requires-2 c κs = search needs
 
 returns-2 : tie.Need-returns-2
-unfolding readyBy
-returns-2 c = let a = c .before .before .before .before .before .before .before .before .args in simp (sym (c .before .before .before .before .before .is-released .ensures) ∙ not-false _ (c .before .before .before .before .if1 .left), eq-complete (a .times .now) (a .state .work) (a .at) (sym (c .before .before .number-at .ensures) ∙ c .if2 .taken ∙ c .before .number-at2 .ensures))
+returns-2 c js e j =
+    let a = c .before .before .before .before .before .before .before .before .args in
+    unready-complete js _ _ _ (eq-complete (a .times .now) (a .state .work) (a .at) (sym (c .before .before .number-at .ensures) ∙ c .if2 .taken ∙ c .before .number-at2 .ensures))
 
 is-following-requires : tie.Need-is-following-requires
 is-following-requires c κs = search needs
 
 returns-3 : tie.Need-returns-3
-unfolding readyBy
-returns-3 c = let a = c .before .before .before .before .before .before .before .before .before .before .args in simp (sym (c .before .before .before .before .before .before .before .is-released .ensures) ∙ not-false _ (c .before .before .before .before .before .before .if1 .left), ne-complete (a .times .now) (a .state .work) (a .at) (λ e. c .before .before .if2 .left (c .before .before .before .before .number-at .ensures ∙ e ∙ sym (c .before .before .before .number-at2 .ensures))), sym (c .before .is-following .ensures) ∙ c .if3 .taken)
+returns-3 c js e j =
+    let a = c .before .before .before .before .before .before .before .before .before .before .args in
+    let released = sym (c .before .before .before .before .before .before .before .is-released .ensures js _ _ e j refl) ∙ not-false _ (c .before .before .before .before .before .before .if1 .left) in
+    let unfinished = ne-complete (a .times .now) (a .state .work) (a .at) (λ z. c .before .before .if2 .left (c .before .before .before .before .number-at .ensures ∙ z ∙ sym (c .before .before .before .number-at2 .ensures))) in
+    ready-following js _ _ _ e j released unfinished (sym (c .before .is-following .ensures) ∙ c .if3 .taken)
 
 returns-4 : tie.Need-returns-4
-unfolding readyBy
-returns-4 c = let a = c .before .before .before .before .before .before .before .before .before .before .args in simp (sym (c .before .before .before .before .before .before .before .is-released .ensures) ∙ not-false _ (c .before .before .before .before .before .before .if1 .left), ne-complete (a .times .now) (a .state .work) (a .at) (λ e. c .before .before .if2 .left (c .before .before .before .before .number-at .ensures ∙ e ∙ sym (c .before .before .before .number-at2 .ensures))), sym (c .before .is-following .ensures) ∙ c .if3 .left)
+returns-4 c js e j =
+    let a = c .before .before .before .before .before .before .before .before .before .before .args in
+    let released = sym (c .before .before .before .before .before .before .before .is-released .ensures js _ _ e j refl) ∙ not-false _ (c .before .before .before .before .before .before .if1 .left) in
+    let unfinished = ne-complete (a .times .now) (a .state .work) (a .at) (λ z. c .before .before .if2 .left (c .before .before .before .before .number-at .ensures ∙ z ∙ sym (c .before .before .before .number-at2 .ensures))) in
+    ready-leading js _ _ _ e j released unfinished (sym (c .before .is-following .ensures) ∙ c .if3 .left)
 
 pub is-ready-record-spec : {M : Type 1} → statement M
 is-ready-record-spec =

@@ -1,7 +1,7 @@
 -- `most_urgent` meets its contract: a walk of its MIR, by hand, with a loop. The slice of jobs is looked into once, before the loop, and shut once, after it; a turn reads one job and calls `look_at` on it.
 -- All that the proof knows of `look_at` is that it meets its contract.
 -- Assumes nothing.
-use mathlib.Core.Path.{_≡_, refl, sym, ap, _∙_, subst}
+use mathlib.Core.Path.{_≡_, refl, sym, ap, subst}
 use mathlib.Core.Logic.{⊎-elim}
 use mathlib.Core.WellFounded.{WellFounded, InvImage·wf}
 use Prim.Native.Nat.{ℕ, suc, _+_, _-_, _*_, _<_, _≤_, _^_}
@@ -49,13 +49,11 @@ use denote.Triple.Spec.{Meets, tripleOf}
 use denote.Triple.Table.{entered, cited}
 use denote.Triple.Walked.{says, Stays, stay-none-slice, stay-none, walkOf, AllGo, goes-none, goes-none-slice, Walks, ends-at, walked, walk-meets}
 use denote.Exit.{yes}
-use Rattle.jobs.specs.Jobs.{noJob}
+use Rattle.jobs.specs.Jobs.{noJob, jobAt}
 use Rattle.lent.specs.Scans.{scanOf}
-use Rattle.lent.specs.Private.{lookedAt}
 use Rattle.jobs.specs.declared.job.Job.{Job}
 use Rattle.lent.specs.declared.scan.Scan.{Scan}
 use Rattle.machine.specs.declared.state.State.{State}
-use Rattle.lent.proofs.Scanning.{looked-next}
 use Rattle.lent.proofs.scan.look_at.Symbol.{name as #look-at}
 use Rattle.lent.proofs.scan.most_urgent.Key.{name as #most-urgent}
 use denote.Struct.Laws as LL
@@ -138,18 +136,15 @@ module _ {M : Type 1} (𝓤 : URA M) (H : Heap 𝓤) (A : Atoms 𝓤) (W : Given
   abbrev OwnT : Fml
   OwnT = ShrSlice (named 1) κ₁ u64 .own ts (vt ∷ [])
 
-  -- the job at i, the best of the first i jobs, and the best of one more
+  -- the job at i, the scan of the first i jobs, and what `look_at` promises of its answer
   abbrev job : ℕ → Job
   job i = getD (js .now) i noJob
 
   abbrev upTo : ℕ → Scan
   upTo i = scanOf (js .now) (ts .now) s i
 
-  abbrev next : ℕ → Scan
-  next i = lookedAt (upTo i) (job i) i (ts .now) s
-
-  next-scan : (i : ℕ) → next i ≡ upTo (suc i)
-  next-scan i = looked-next (js .now) (ts .now) s i
+  abbrev Looked : ℕ → Scan → Type 0
+  Looked i r = (l : List Job) → upTo i ≡ scanOf l (ts .now) s i → job i ≡ jobAt l i → r ≡ scanOf l (ts .now) s (suc i)
 
   -- what is had at exit gives the `post`
   exits : Is B.the-row (upTo n) (scan-val (upTo n) ∷ []) → ent 𝓤 (⋆ 𝓤 H A (‵ (flft κ q) ∷ ‵ (flft κ₁ q₁) ∷ ‵ OwnJ ∷ ‵ OwnT ∷ [])) (Post (scan-val (upTo n)))
@@ -177,8 +172,8 @@ module _ {M : Type 1} (𝓤 : URA M) (H : Heap 𝓤) (A : Atoms 𝓤) (W : Given
       owned ! B.the-row (Is B.the-row) (LL.makes B.the-type B′.the-plain 𝓤 H A) (upTo i) _ gb $ fjoin ! $
       nothing ! $ move ! (2 ∷ 0 ∷ []) $ join ! $ join ! $ frame ! $ done !
 
-  looked-of : (i : ℕ) (r : Scan) → ent 𝓤 (ensured 𝓤 H A look.ended (look.clauses 𝓤 H A at-mem run) (κ₁, tt) (args i) tt r) (fact 𝓤 (r ≡ next i))
-  looked-of i r = exE 𝓤 _ (λ us. snd∗ 𝓤 (sem 𝓤 H A (lasts look.ended (κ₁, tt) (args i) us)) (fact 𝓤 (r ≡ next i)))
+  looked-of : (i : ℕ) (r : Scan) → ent 𝓤 (ensured 𝓤 H A look.ended (look.clauses 𝓤 H A at-mem run) (κ₁, tt) (args i) tt r) (fact 𝓤 (Looked i r))
+  looked-of i r = exE 𝓤 _ (λ us. snd∗ 𝓤 (sem 𝓤 H A (lasts look.ended (κ₁, tt) (args i) us)) (fact 𝓤 (Looked i r)))
 
   module _ (𝓣 : Tables 𝓤 H) (known : Triple 𝓤 (𝓣 .C #look-at) (Look 𝓤 H A at-mem run)) (q′ : Share) (l₀ l₁ l₂ l₃ l₄ l₅ l₆ l₇ l₈ l₉ l₁₀ l₁₁ : ℕ) where
     abbrev word : Ty
@@ -246,12 +241,12 @@ module _ {M : Type 1} (𝓤 : URA M) (H : Heap 𝓤) (A : Atoms 𝓤) (W : Given
         calls-at ! (fmOf 𝓤 H (W .laws) 𝓣) (Look 𝓤 H A at-mem run) known (to-look (i .0))
         (and-then ! (load ! (from ! (stop !)) (look ! 3 refl)) (and-then ! (load ! (from ! (stop !)) (look ! 5 refl)) (and-then ! (load ! (from ! (stop !)) (look ! 4 refl)) (and-then ! (load ! (from ! (stop !)) (look ! 11 refl)) (and-then ! (load ! (from ! (stop !)) (look ! 12 refl)) (no-more !)))))) (λ v.
         use1 W (later (some (λ (r : Scan). ((‵ (flft κ₁ q₁) ⊛ ‵ ftrue) ⊛ ‵ (B.the-row .own r (v ∷ []))) ⊛ raw (ensured 𝓤 H A look.ended (look.clauses 𝓤 H A at-mem run) (κ₁, tt) (args (i .0)) tt r)))) (id⊢ 𝓤 _) $ await ! tt $ pick ! (λ r.
-        split ! $ move ! (1 ∷ []) $ use1 W (raw (fact 𝓤 (r ≡ next (i .0)))) (looked-of (i .0) r) $ heard ! (r ≡ next (i .0)) (λ e.
+        split ! $ move ! (1 ∷ []) $ use1 W (raw (fact 𝓤 (Looked (i .0) r))) (looked-of (i .0) r) $ heard ! (Looked (i .0) r) (λ e.
         split ! $ move ! (1 ∷ []) $ peeks ! B.the-row (Is B.the-row) (shows 𝓤 H A B.the-row) r (v ∷ []) (λ is. drop ! $
         -- [the token ⊛ true; OwnT; the row; _4 (3); …]
         land ! (from ! (stop !)) (store ! 3 refl (LL.lawful B.the-type B′.the-laws 𝓤 H A W .typed r _ is .0)) $
         rewrite ! 3 (λ (u : Val). ‵ (fat fullShare B′.mir l₄ 0 u)) (ap only (LL.tells B.the-type B′.the-laws r _ is)) refl $
-        rewrite ! 3 (λ (u : Scan). ‵ (fat fullShare B′.mir l₄ 0 (scan-val u))) (e ∙ next-scan (i .0)) refl $
+        rewrite ! 3 (λ (u : Scan). ‵ (fat fullShare B′.mir l₄ 0 (scan-val u))) (e (js .now) refl refl) refl $
         assigns-last ! (bin ! (load ! (from ! (stop !)) (look ! 4 refl)) (lit ! tt) (record { fits = next-fits })) (from ! (stop !)) (store ! 4 refl (tt, record { fits = next-fits })) $
         rewrite ! 4 (λ (j : ℕ). ‵ (fat fullShare word l₅ 0 (vint w64 j))) (add-one (i .0)) refl $
         forget ! 5 refl $ forget ! 6 refl $ forget ! 7 refl $ forget ! 8 refl $ forget ! 9 refl $

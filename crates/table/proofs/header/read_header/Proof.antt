@@ -1,13 +1,13 @@
--- `read_header` answers `headerEnd`. Assumes nothing.
+-- `read_header` answers whether the first line is the header, and its bytes. Assumes nothing.
 use mathlib.Core.Bool.{true}
 use mathlib.Core.Path.{_≡_, sym, _∙_}
 use lib.ListN.{length, drop}
 use borrow.Author.Needs.{needs}
 use borrow.Author.Tests.{not-true, not-false}
 use Rattle.laws.proofs.Lists.{rest-is}
-use Rattle.table.specs.Private.{endOf, startsWith}
 use Rattle.table.specs.Tables.{header}
-use Rattle.table.proofs.Headers.{not-header, header-within, header-room, header-line, header-longer}
+use Rattle.table.proofs.Lines.{endOf}
+use Rattle.table.proofs.Headers.{startsWith, not-header, header-within, header-room, header-line, header-longer}
 use Rattle.table.proofs.header.read_header.Statement.{statement}
 use Rattle.table.proofs.header.read_header.Tie as tie
 

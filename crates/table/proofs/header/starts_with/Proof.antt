@@ -1,10 +1,9 @@
--- `starts_with` answers `startsWith`. The loop's invariant: what follows the bytes so far decides. Assumes nothing.
+-- `starts_with` answers whether a text starts with these bytes. The loop's invariant: what follows the bytes so far decides. Assumes nothing.
 use Prim.Native.Nat.{_-_}
 use mathlib.Core.Path.{_≡_, refl, sym, _∙_}
 use lib.ListN.{length, drop}
 use borrow.Author.Needs.{needs}
-use Rattle.table.specs.Private.{startsWith}
-use Rattle.table.proofs.Headers.{prefix-done, prefix-short, prefix-differs, prefix-agrees}
+use Rattle.table.proofs.Headers.{startsWith, prefix-done, prefix-short, prefix-differs, prefix-agrees}
 use Rattle.table.proofs.header.starts_with.Statement.{statement}
 use Rattle.table.proofs.header.starts_with.Tie as tie
 

@@ -1,4 +1,4 @@
--- `read_end` answers `endOf`. Assumes nothing.
+-- `read_end` answers whether the first line is empty, and the bytes of its end. Assumes nothing.
 use mathlib.Core.Path.{sym}
 use mathlib.Core.Logic.{inl, inr}
 use borrow.Author.Needs.{needs}

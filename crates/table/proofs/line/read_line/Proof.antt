@@ -1,20 +1,20 @@
--- `read_line` answers `lineOf`. The loop's invariant: the fields so far are read, and what follows them decides. Assumes nothing.
+-- `read_line` answers the row of the first line. The loop's invariant: the fields so far are read, and what follows them decides. Assumes nothing.
 use Prim.Native.Nat.{_-_}
 use mathlib.Core.Path.{_≡_, sym, _∙_}
 use lib.ListN.{length, drop}
 use borrow.Author.Needs.{needs}
 use Rattle.laws.proofs.Lists.{rest-is}
-use Rattle.table.specs.Private.{endOf}
 use Rattle.table.specs.Rows.{columnOf}
+use Rattle.table.proofs.Lines.{endOf}
 use Rattle.table.proofs.Rows.{FieldsRead, fields-none, fields-malformed, fields-within, fields-next, fields-last, fields-ended, fields-open}
 use Rattle.table.proofs.line.read_line.Statement.{statement}
 use Rattle.table.proofs.line.read_line.Tie as tie
 
 abbrev Inv-loop : tie.InvT-loop
-Inv-loop rest columns values₀ at₀ k₀ values at k = FieldsRead columns rest values at k
+Inv-loop rest columns values₀ malformed at₀ k₀ values at k = FieldsRead columns rest values at k
 
 abbrev μ-loop : tie.MeasureT-loop
-μ-loop rest columns values₀ at₀ k₀ values at k = columns - k
+μ-loop rest columns values₀ malformed at₀ k₀ values at k = columns - k
 
 -- what was read, at the place in the text
 column : (c : tie.After-read-column Inv-loop μ-loop)
@@ -45,12 +45,9 @@ enum-known-value c = search needs
 enum-told : tie.Need-enum-told Inv-loop μ-loop
 enum-told c = search needs
 
-malformed-requires : tie.Need-malformed-requires Inv-loop μ-loop
-malformed-requires c κs = search needs
-
 returns : tie.Need-returns Inv-loop μ-loop
 returns c =
-    c .malformed .ensures ∙ fields-malformed (c .before .before .before .before .before .before .before .before .pre) (c .before .before .before .before .before .before .loop .inv) (c .before .before .before .before .before .loop-test .taken) (sym (column (c .before .before .before)) ∙ c .before .enum-told .given .1)
+    fields-malformed (c .before .before .before .before .before .before .before .pre) (c .before .before .before .before .before .loop .inv) (c .before .before .before .before .loop-test .taken) (sym (column (c .before .before)) ∙ c .enum-told .given .1)
 
 mul-values : tie.Need-mul-values Inv-loop μ-loop
 mul-values c = search needs
@@ -91,15 +88,12 @@ enum-known-length c = search needs
 enum-told-2 : tie.Need-enum-told-2 Inv-loop μ-loop
 enum-told-2 c = search needs
 
-malformed-requires-2 : tie.Need-malformed-requires-2 Inv-loop μ-loop
-malformed-requires-2 c κs = search needs
-
 returns-2 : tie.Need-returns-2 Inv-loop μ-loop
 returns-2 c =
-    c .malformed2 .ensures ∙ fields-open (c .before .before .before .before .before .before .before .before .pre) (c .before .before .before .before .before .before .loop .inv) (c .before .before .before .before .before .loop-test .left) (sym (line-end (c .before .before .before)) ∙ c .before .enum-told2 .given .1)
+    fields-open (c .before .before .before .before .before .before .before .pre) (c .before .before .before .before .before .loop .inv) (c .before .before .before .before .loop-test .left) (sym (line-end (c .before .before)) ∙ c .enum-told2 .given .1)
 
-add-t19 : tie.Need-add-t19 Inv-loop μ-loop
-add-t19 c =
+add-t23 : tie.Need-add-t23 Inv-loop μ-loop
+add-t23 c =
     let h = fields-last (c .before .before .before .before .before .before .before .before .pre) (c .before .before .before .before .before .before .loop .inv) _ (sym (line-end (c .before .before .before)) ∙ c .before .length .given .1) in
     search (needs, h)
 
@@ -120,7 +114,6 @@ read-line-spec =
     read-column-requires
     enum-known-value
     enum-told
-    malformed-requires
     returns
     mul-values
     array-write-values
@@ -134,7 +127,6 @@ read-line-spec =
     read-end-requires
     enum-known-length
     enum-told-2
-    malformed-requires-2
     returns-2
-    add-t19
+    add-t23
     returns-3)

@@ -10,8 +10,8 @@ use Rattle.jobs.specs.Limits.{maxJobs}
 use Rattle.jobs.specs.Checks.{recordCheck}
 use Rattle.jobs.proofs.Accepted.{record-fine}
 use Rattle.table.specs.Rows.{maxColumns}
-use Rattle.table.specs.Private.{lineOf}
 use Rattle.table.specs.Tables.{jobOf}
+use Rattle.table.proofs.Rows.{lineOf}
 use Rattle.table.proofs.Records.{RecordsRead, records-none, records-empty, records-end, records-malformed, records-refused, records-forward, records-within, records-next}
 use Rattle.table.proofs.reading.read_records.Statement.{statement}
 use Rattle.table.proofs.reading.read_records.Tie as tie
@@ -24,7 +24,7 @@ abbrev μ-loop : tie.MeasureT-loop
 
 -- the line at the place, and the check of its record
 is-line : (c : tie.After-read-line Inv-loop μ-loop) → c .read-line .result ≡ lineOf maxColumns (drop (c .before .before .before .loop .at) (c .before .before .before .before .before .before .before .args .rest .now))
-is-line c = rw (rest-is (c .before .before .before .loop .at) (c .before .before .before .before .before .before .before .args .rest .now)) at (c .read-line .ensures)
+is-line c = c .read-line .ensures ∙ ap (lineOf maxColumns) (rest-is (c .before .before .before .loop .at) (c .before .before .before .before .before .before .before .args .rest .now))
 
 is-check : (c : tie.After-check-record Inv-loop μ-loop)
     → recordCheck (c .before .before .before .before .before .before .before .before .loop .set .count) (c .before .before .before .before .before .before .before .before .loop .last) (jobOf (c .before .before .before .before .before .read-line .result .values)) ≡ c .check-record .result
