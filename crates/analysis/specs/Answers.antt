@@ -1,57 +1,45 @@
 -- The answers of the public functions. Document 01, "Bounds", the refusals of a set and of admission, and number 10. Unused places of an answer are 0.
 -- Assumes nothing.
-use Rattle.laws.specs.Words.{ℕ, _≤_, _<_, max, _≡_, Bool, true, false, cond, List, [], eqb, ℤ, pos, length, padded}
+use Rattle.laws.specs.Words.{ℕ, _≤_, _<_, max, _≡_, Bool, true, false, cond, List, [], eqb, pos, length, padded}
 use Rattle.jobs.specs.declared.{job.Job.Job, set.JobSet.JobSet, refusal.Refusal.Refusal, refusal.Check.Check}
 use Rattle.jobs.specs.{Limits.maxJobs, Refusals.onPass, Jobs.jobsOf, Jobs.setOf, Checks.checkOf, Joins.withChain, Joins.joinCheck}
-use Rattle.theory.specs.{Table.Table, Table.tableOf, Bounds.ert, Bounds.cja, Rounds.Answer, Rounds.roundLimit, Rounds.itr, Verdicts.slacks, Verdicts.meets, Claims.Repeats}
+use Rattle.theory.specs.{Table.Table, Table.tableOf, Bounds.ert, Bounds.cja, Rounds.roundLimit, Rounds.itr, Verdicts.slacks, Verdicts.meets, Claims.Repeats}
 use Rattle.analysis.specs.declared.{answer.Bounds.Bounds, answer.Itr.Itr, answer.Slacks.Slacks, answer.Figures.Figures, answer.Verdict.Verdict, answer.Admission.Admission}
 
 -- A figure of each job in an answer; none on a refusal.
 abbrev pub eachJob : {A : Type 0} → A → Check → List A → List A
 eachJob unused check each = padded maxJobs unused (onPass check (λ refusal. []) each)
 
--- ERT or CJA bounds in an answer.
-abbrev pub boundsWith : Check → List ℕ → Bounds
-boundsWith check bounds = record { check = check; bounds = eachJob 0 check bounds }
-
 -- The ERT bounds of a set.
 unfoldable pub ertOf : JobSet → Bounds
-ertOf set = boundsWith (checkOf (jobsOf set)) (ert (tableOf (jobsOf set)))
+ertOf set = let js = jobsOf set in record { check = checkOf js; bounds = eachJob 0 (checkOf js) (ert (tableOf js)) }
 
 -- The CJA bounds of a set.
 unfoldable pub cjaOf : JobSet → Bounds
-cjaOf set = boundsWith (checkOf (jobsOf set)) (cja (tableOf (jobsOf set)))
+cjaOf set = let js = jobsOf set in record { check = checkOf js; bounds = eachJob 0 (checkOf js) (cja (tableOf js)) }
 
--- The ITR bounds and the number of rounds in an answer.
-abbrev pub itrWith : Check → Answer → Itr
-itrWith check answer =
-    record { check = check; bounds = eachJob 0 check (answer .bounds); rounds = onPass check (λ refusal. 0) (answer .rounds) }
-
--- The ITR answer of a set.
+-- The ITR bounds of a set and the number of rounds; none on a refusal.
 unfoldable pub itrOf : JobSet → Itr
-itrOf set = itrWith (checkOf (jobsOf set)) (itr (tableOf (jobsOf set)))
+itrOf set =
+    let js = jobsOf set in
+    let answer = itr (tableOf js) in
+    record { check = checkOf js; bounds = eachJob 0 (checkOf js) (answer .bounds); rounds = onPass (checkOf js) (λ refusal. 0) (answer .rounds) }
 
 -- Each job's deadline less its ITR bound.
 unfoldable pub slacksOf : JobSet → Slacks
 slacksOf set = let js = jobsOf set in record { check = checkOf js; slacks = eachJob (pos 0) (checkOf js) (slacks js) }
 
--- All figures in one answer.
-abbrev pub figuresWith : Check → List ℕ → List ℕ → Answer → List ℤ → Figures
-figuresWith check byErt byCja answer each =
-    record {
-      check = check;
-      ert = eachJob 0 check byErt;
-      cja = eachJob 0 check byCja;
-      itr = eachJob 0 check (answer .bounds);
-      rounds = onPass check (λ refusal. 0) (answer .rounds);
-      slacks = eachJob (pos 0) check each;
-    }
-
--- The three bounds, the rounds and the slacks of a set.
+-- The figures of the four answers above in one.
 unfoldable pub figuresOf : JobSet → Figures
 figuresOf set =
-    let js = jobsOf set in
-    figuresWith (checkOf js) (ert (tableOf js)) (cja (tableOf js)) (itr (tableOf js)) (slacks js)
+    record {
+      check = checkOf (jobsOf set);
+      ert = ertOf set .bounds;
+      cja = cjaOf set .bounds;
+      itr = itrOf set .bounds;
+      rounds = itrOf set .rounds;
+      slacks = slacksOf set .slacks;
+    }
 
 -- Yes where all deadlines are met.
 abbrev pub verdictIs : Bool → Verdict
