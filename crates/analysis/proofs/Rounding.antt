@@ -10,12 +10,12 @@ use mathlib.Core.List.{List}
 use native.Mathlib.Omega.{arith}
 use native.Mathlib.Nat.{mul-le-mul-right}
 use native.Mathlib.Numerals.{add-one}
-use lib.Dec.{eqb}
 use lib.ListN.{getD}
 use lib.Seq.{ext-getD}
 use borrow.Author.Tests.{eq-eqb}
 use Rattle.laws.specs.Words.{padded}
-use Rattle.laws.proofs.Tests.{by-last, by-order, both-ways, never-true, and-both}
+use Rattle.laws.proofs.Tests.{by-last, by-order, both-ways, never-true}
+use Rattle.laws.proofs.Every.{every-none, every-next}
 use Rattle.laws.proofs.Lists.{getD-padded}
 use Rattle.jobs.specs.Limits.{maxJobs}
 use Rattle.jobs.specs.declared.refusal.Check.the-variants.{Passed}
@@ -40,11 +40,11 @@ limit-small t few =
 -- ---- the same bounds
 pub same-none : (a b : List ℕ) → sameBounds 0 a b ≡ true
 unfolding sameBounds
-same-none a b = refl
+same-none a b = every-none _
 
 pub same-more : (n : ℕ) (a b : List ℕ) → sameBounds n a b ≡ true → boundAt a n ≡ boundAt b n → sameBounds (n + 1) a b ≡ true
 unfolding sameBounds
-same-more n a b e q = rw add-one (and-both (sameBounds n a b) (eqb (boundAt a n) (boundAt b n)) e (eq-eqb (boundAt a n) (boundAt b n) q))
+same-more n a b e q = every-next _ n e (eq-eqb (boundAt a n) (boundAt b n) q)
 
 pub same-not : (n : ℕ) (a b : List ℕ) (i : ℕ) → i < n → boundAt a i ≢ boundAt b i → sameBounds n a b ≡ false
 same-not n a b i l ne = never-true (sameBounds n a b) (λ e. ne (same-at n a b e i l))

@@ -49,9 +49,9 @@ verdictIs false = Verdict.No
 -- The verdict on accepted jobs by 1 ERT, 2 CJA or 3 ITR: whether each bound is at or before its job's deadline.
 unfoldable pub verdictBy : List Job → ℕ → Verdict
 verdictBy js algorithm =
-    cond (eqb algorithm 1) (verdictIs (meets js (ert (tableOf js)) (length js)))
-    (cond (eqb algorithm 2) (verdictIs (meets js (cja (tableOf js)) (length js)))
-    (cond (eqb algorithm 3) (verdictIs (meets js (itr (tableOf js) .bounds) (length js)))
+    cond (eqb algorithm 1) (verdictIs (meets js (ert (tableOf js))))
+    (cond (eqb algorithm 2) (verdictIs (meets js (cja (tableOf js))))
+    (cond (eqb algorithm 3) (verdictIs (meets js (itr (tableOf js) .bounds)))
     (Verdict.Refused Refusal.UnknownAlgorithm)))
 
 -- The verdict on a set; its own refusals come first.

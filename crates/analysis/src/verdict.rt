@@ -17,7 +17,7 @@ use jobs::set::JobSet;
 // Whether each job of a set has its bound at or before its deadline.
 fn meets(set: JobSet, bounds: [u64; JobSet::MAX_JOBS]) -> bool
     requires { ⌜ set .count ≤ maxJobs ⌝ }
-    ensures { λ r. ⌜ r ≡ Theory·meets (jobsOf set) bounds (set .count) ⌝ }
+    ensures { λ r. ⌜ r ≡ Theory·meets (jobsOf set) bounds ⌝ }
 {
     let count = set.count;
     let mut i: usize = 0;

@@ -58,7 +58,7 @@ figures : (c : Case) → checkOf (c .jobs) ≡ c .check
     → itr (tableOf (c .jobs)) .bounds ≡ c .itrBounds
     → itr (tableOf (c .jobs)) .rounds ≡ c .rounds
     → tabulate 0 (length (c .jobs)) (λ i. slack (jobAt (c .jobs) i .deadline) (boundAt (c .itrBounds) i)) ≡ c .slack
-    → meets (c .jobs) (c .itrBounds) (length (c .jobs)) ≡ c .verdict
+    → meets (c .jobs) (c .itrBounds) ≡ c .verdict
     → map (λ r. runWith (c .jobs) (r .times)) (c .runs) ≡ c .runs
     → byDefinition c ≡ c
 unfolding byDefinition slacks

@@ -55,7 +55,7 @@ byDefinition c =
       itrBounds = itr t .bounds;
       slack = slacks js;
       rounds = itr t .rounds;
-      verdict = meets js (itr t .bounds) (length js);
+      verdict = meets js (itr t .bounds);
       runs = map (λ r. runWith js (r .times)) (c .runs);
     }
 
