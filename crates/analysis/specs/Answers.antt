@@ -1,6 +1,6 @@
 -- The answers of the public functions. Document 01, "Bounds", the refusals of a set and of admission, and number 10. Unused places of an answer are 0.
 -- Assumes nothing.
-use Rattle.laws.specs.Words.{ℕ, _≤_, _<_, max, _≡_, Bool, true, false, cond, List, [], eqb, pos, length, padded}
+use Rattle.laws.specs.Words.{ℕ, _≤_, _<_, max, _≡_, cond, List, [], eqb, pos, padded}
 use Rattle.jobs.specs.declared.{job.Job.Job, set.JobSet.JobSet, refusal.Refusal.Refusal, refusal.Check.Check}
 use Rattle.jobs.specs.{Limits.maxJobs, Refusals.onPass, Jobs.jobsOf, Jobs.setOf, Checks.checkOf, Joins.withChain, Joins.joinCheck}
 use Rattle.theory.specs.{Table.Table, Table.tableOf, Bounds.ert, Bounds.cja, Rounds.roundLimit, Rounds.itr, Verdicts.slacks, Verdicts.meets, Claims.Repeats}
@@ -41,17 +41,13 @@ figuresOf set =
       slacks = slacksOf set .slacks;
     }
 
--- Yes where all deadlines are met.
-abbrev pub verdictIs : Bool → Verdict
-verdictIs true = Verdict.Yes
-verdictIs false = Verdict.No
-
--- The verdict on accepted jobs by 1 ERT, 2 CJA or 3 ITR: whether each bound is at or before its job's deadline.
+-- The verdict on accepted jobs by 1 ERT, 2 CJA or 3 ITR: yes where each bound is at or before its job's deadline.
 unfoldable pub verdictBy : List Job → ℕ → Verdict
 verdictBy js algorithm =
-    cond (eqb algorithm 1) (verdictIs (meets js (ert (tableOf js))))
-    (cond (eqb algorithm 2) (verdictIs (meets js (cja (tableOf js))))
-    (cond (eqb algorithm 3) (verdictIs (meets js (itr (tableOf js) .bounds)))
+    let by : List ℕ → Verdict = λ bounds. cond (meets js bounds) Verdict.Yes Verdict.No in
+    cond (eqb algorithm 1) (by (ert (tableOf js)))
+    (cond (eqb algorithm 2) (by (cja (tableOf js)))
+    (cond (eqb algorithm 3) (by (itr (tableOf js) .bounds))
     (Verdict.Refused Refusal.UnknownAlgorithm)))
 
 -- The verdict on a set; its own refusals come first.

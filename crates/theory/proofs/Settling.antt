@@ -10,7 +10,7 @@ use lib.Dec.{eqb}
 use lib.Seq.{ext-getD}
 use borrow.Author.Tests.{eqb-true, eqb-false, eq-eqb, ne-eqb}
 use Rattle.laws.specs.Words.{sumBelow}
-use Rattle.laws.proofs.Tests.{by-test, by-order, by-equal, by-last, both-ways, and-left, and-right, and-both, cond-le, cond-one}
+use Rattle.laws.proofs.Tests.{by-test, by-order, by-equal, by-last, both-ways, cond-le, cond-one}
 use Rattle.laws.proofs.Every.{every-at, every-all}
 use Rattle.laws.proofs.Sums.{sum-mono, sum-eq, sum-const, sum-skip}
 use Rattle.laws.proofs.Tabulate.{tabulate-ext}

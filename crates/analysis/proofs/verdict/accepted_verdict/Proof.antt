@@ -1,6 +1,7 @@
 -- `accepted_verdict` answers `verdictBy`, algorithm by algorithm. Assumes nothing.
 use Prim.Native.Nat.{_≤_}
 use mathlib.Core.Path.{_≡_, ap, _∙_}
+use mathlib.Core.Bool.{Bool, cond}
 use native.Mathlib.Omega.{arith}
 use borrow.Author.Tests.{eq-eqb, ne-eqb}
 use borrow.Author.Needs.{needs}
@@ -12,7 +13,9 @@ use Rattle.jobs.specs.Checks.{checkOf}
 use Rattle.jobs.proofs.Sets.{length-jobs}
 use Rattle.jobs.proofs.Accepted.{accepted}
 use Rattle.analysis.specs.declared.answer.Itr.{Itr}
-use Rattle.analysis.specs.Answers.{verdictIs, verdictBy}
+use Rattle.analysis.specs.declared.answer.Verdict.{Verdict}
+use Rattle.analysis.specs.declared.answer.Verdict.the-variants.{Yes, No}
+use Rattle.analysis.specs.Answers.{verdictBy}
 use Rattle.analysis.proofs.Meeting.{meets-padded}
 use Rattle.analysis.proofs.verdict.accepted_verdict.Statement.{statement}
 use Rattle.analysis.proofs.verdict.accepted_verdict.Tie as tie
@@ -20,6 +23,10 @@ use Rattle.analysis.proofs.verdict.accepted_verdict.Tie as tie
 -- an accepted set's jobs fit a set
 few : (set : JobSet) → checkOf (jobsOf set) ≡ Passed → set .count ≤ maxJobs
 few set passed = omega (arith, length-jobs set, accepted (jobsOf set) passed .few)
+
+-- the verdict that a test says
+abbrev verdictIs : Bool → Verdict
+verdictIs met = cond met Yes No
 
 accepted-ert-requires : tie.Need-accepted-ert-requires
 accepted-ert-requires c κs = search needs
