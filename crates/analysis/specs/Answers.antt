@@ -1,9 +1,9 @@
 -- The answers of the public functions. Document 01, "Bounds", the refusals of a set and of admission, and number 10. Unused places of an answer are 0.
 -- Assumes nothing.
-use Rattle.laws.specs.Words.{ℕ, _≤_, _<_, max, _≡_, cond, List, [], eqb, pos, padded}
+use Rattle.laws.specs.Words.{ℕ, _≤_, max, _≡_, cond, List, [], eqb, pos, padded}
 use Rattle.jobs.specs.declared.{job.Job.Job, set.JobSet.JobSet, refusal.Refusal.Refusal, refusal.Check.Check}
 use Rattle.jobs.specs.{Limits.maxJobs, Refusals.onPass, Jobs.jobsOf, Jobs.setOf, Checks.checkOf, Joins.withChain, Joins.joinCheck}
-use Rattle.theory.specs.{Table.Table, Table.tableOf, Bounds.ert, Bounds.cja, Rounds.roundLimit, Rounds.itr, Verdicts.slacks, Verdicts.meets, Claims.Repeats}
+use Rattle.theory.specs.{Table.tableOf, Bounds.ert, Bounds.cja, Rounds.after, Rounds.roundLimit, Rounds.itr, Verdicts.slacks, Verdicts.meets, Claims.Settled}
 use Rattle.analysis.specs.declared.{answer.Bounds.Bounds, answer.Itr.Itr, answer.Slacks.Slacks, answer.Figures.Figures, answer.Verdict.Verdict, answer.Admission.Admission}
 
 -- A figure of each job in an answer; none on a refusal.
@@ -66,14 +66,11 @@ admissionOf old new algorithm =
     let joined = withChain (jobsOf old) (jobsOf new) in
     admitted (onPass (joinCheck (jobsOf old) (jobsOf new)) Verdict.Refused (verdictBy joined algorithm)) old (setOf joined)
 
--- The number of rounds in the ITR answer of n jobs: it is that of the first round whose bounds equal the previous ones, it is at most
--- n × n × (n − 1) + 2, and at most n where there is a job.
-pub record Counted (t : Table) (rounds : ℕ) : Type 0 where
-  pub repeats : Repeats t rounds
-  pub first : (n : ℕ) → n < rounds → Repeats t n → ⊥
-  pub cubic : rounds ≤ roundLimit t
-  pub few : rounds ≤ max 1 (t .count)
-
--- `itr-rounds`: what the number of rounds is, for every accepted set.
+-- `itr-rounds`: the number of rounds in the ITR answer of an accepted set of n jobs is that of the first round whose bounds equal the previous ones; it is
+-- at most n × n × (n − 1) + 2, and at most n where there is a job.
 abbrev pub RoundsCounted : Type 0
-RoundsCounted = (set : JobSet) → checkOf (jobsOf set) ≡ Check.Passed → Counted (tableOf (jobsOf set)) (itrOf set .rounds)
+RoundsCounted =
+    (set : JobSet) → checkOf (jobsOf set) ≡ Check.Passed →
+    let t = tableOf (jobsOf set) in
+    let rounds = itrOf set .rounds in
+    Settled t (record { bounds = after t rounds; rounds = rounds }) × (rounds ≤ roundLimit t) × (rounds ≤ max 1 (t .count))

@@ -38,9 +38,7 @@ pub demand-3 : EveryAccepted Demand3
 demand-3 =
     of-well-formed Demand3 (λ t well.
     record {
-      by-ert = ert-holds t well;
-      by-cja = cja-holds t well;
-      by-itr = itr-holds t well;
+      holds = record { by-ert = ert-holds t well; by-cja = cja-holds t well; by-itr = itr-holds t well };
       itr-cja = itr-le-cja t;
       cja-ert = cja-le-ert t (well .ordered);
       rounds = rounds-limit t;
