@@ -12,11 +12,11 @@ use native.Mathlib.Nat.{min-eq-left, min-eq-right}
 use Rattle.laws.proofs.Tests.{by-order, by-equal, by-last, cond-le}
 use Rattle.theory.specs.Table.{Table}
 use Rattle.theory.specs.Interference.{interference}
-use Rattle.theory.specs.Bounds.{ertRule, interferenceAt, ert, demand, lowest, counted, pairBound, largestPair, cjaWith, always, cja}
+use Rattle.theory.specs.Bounds.{ertRule, interferenceAt, ert, demand, lowest, counted, pairBound, largestPair, cjaWith, cja}
 use Rattle.theory.specs.Rounds.{overlap, round, after}
 use Rattle.theory.specs.Claims.{AtMost}
 use Rattle.theory.proofs.WellFormed.{Ordered, chain-between}
-use Rattle.theory.proofs.Rules.{first-zero, first-after, ert-first, ert-next, ert-own, demand-one, demand-more, lowest-one, lowest-more, pairs-least, pair-below, at-cja, at-ert, at-start}
+use Rattle.theory.proofs.Rules.{always, first-zero, first-after, ert-first, ert-next, ert-own, demand-one, demand-more, lowest-one, lowest-more, pairs-least, pair-below, at-cja, at-ert, at-start}
 use Rattle.theory.proofs.Interference.{interference-mono}
 use Rattle.theory.proofs.Overlaps.{overlap-carry}
 

@@ -1,10 +1,11 @@
 -- The rules of the bounds, step by step: the ERT rule, demand and lowest urgency of the jobs from k to j, the largest pair, and the bound at a place.
---   First   the job at a place has no predecessor
+--   First    the job at a place has no predecessor
+--   always   the choice that leaves no job out
 -- Assumes nothing.
 use Prim.Native.Nat.{ℕ, zero, suc, _+_, _≤_, _<_, max, min}
 use mathlib.Core.Path.{_≡_, refl, ap, _∙_}
 use mathlib.Core.Logic.{_≢_}
-use mathlib.Core.Bool.{Bool}
+use mathlib.Core.Bool.{Bool, true}
 use native.Mathlib.Omega.{arith}
 use native.Mathlib.Nat.{zero-add}
 use lib.Dec.{eqb}
@@ -19,6 +20,9 @@ use Rattle.theory.specs.Rounds.{itrStart, overlap, round, after}
 -- the job at v has no predecessor
 abbrev pub First : Table → ℕ → Type 0
 First t v = (w : ℕ) → v ≡ suc w → t .chain w ≢ t .chain v
+
+abbrev pub always : ℕ → ℕ → ℕ → Bool
+always k j u = true
 
 module _ (t : Table) where
   pub first-zero : First t 0

@@ -50,13 +50,9 @@ largestPair t keep j (suc k) =
 unfoldable pub cjaWith : Table → (ℕ → ℕ → ℕ → Bool) → List ℕ
 cjaWith t keep = tabulate 0 (t .count) (λ j. largestPair t keep j (suc j))
 
--- The choice that leaves no job out.
-abbrev pub always : ℕ → ℕ → ℕ → Bool
-always k j u = true
-
--- The CJA bounds.
+-- The CJA bounds: every job counts.
 unfoldable pub cja : Table → List ℕ
-cja t = cjaWith t always
+cja t = cjaWith t (λ k j u. true)
 
 -- All bounds of an accepted set are below this.
 abbrev pub boundLimit : ℕ
