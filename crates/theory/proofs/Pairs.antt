@@ -11,6 +11,7 @@ use native.Mathlib.Omega.{arith}
 use lib.Dec.{leb, eqb}
 use lib.ListN.{getD}
 use borrow.Author.Tests.{le-leb, lt-leb, eq-eqb}
+use Rattle.laws.specs.Words.{greatest}
 use Rattle.laws.proofs.Tests.{by-test, by-last}
 use Rattle.laws.proofs.Sums.{sum-const}
 use Rattle.jobs.specs.Limits.{maxTime}
@@ -76,8 +77,8 @@ module _ (t : Table) (j : ℕ) where
     pub walked-none : Walked t keep m j (suc j) 0 (t .urgency j) 0
     walked-none = record { inside = omega arith; sum-is = sym demand-out; low-is = sym lowest-out; best-is = omega arith; small = omega arith }
 
-    pair-step : (p : ℕ) → t .chain p ≡ t .chain j → largestPair t keep j (suc p) ≡ max (pairBound t keep p j) (largestPair t keep j p)
-    unfolding largestPair
+    pair-step : (p : ℕ) → t .chain p ≡ t .chain j → largestPair t keep j (suc p) ≡ max (largestPair t keep j p) (pairBound t keep p j)
+    unfolding largestPair greatest
     pair-step p e = rw (eq-eqb (t .chain p) (t .chain j) e)
 
     module _ {k p sum low best : ℕ} (h : Walked t keep m j k sum low best) (e : k ≡ suc p) where
@@ -109,7 +110,7 @@ module _ (t : Table) (j : ℕ) where
           )
 
     pub walked-all : {sum low best : ℕ} (k : ℕ) → k ≡ 0 → Walked t keep m j k sum low best → best ≡ largestPair t keep j (suc j)
-    unfolding largestPair
+    unfolding largestPair greatest
     walked-all k e h = omega (arith, h .best-is, ap (largestPair t keep j) e, none)
       where
         none : largestPair t keep j 0 ≡ 0

@@ -11,6 +11,7 @@ use native.Mathlib.Nat.{zero-add}
 use lib.Dec.{eqb}
 use lib.ListN.{length}
 use borrow.Author.Tests.{eqb-true, le-leb, lt-leb, eq-eqb, ne-eqb}
+use Rattle.laws.specs.Words.{greatest}
 use Rattle.laws.proofs.Tests.{by-test, by-last}
 use Rattle.laws.proofs.Tabulate.{length-tabulate, getD-tabulate}
 use Rattle.theory.specs.Table.{Table, joined}
@@ -119,7 +120,7 @@ module _ (t : Table) where
   module _ (keep : ℕ → ℕ → ℕ → Bool) where
     -- what each pair is at most, the largest is at most
     pub pairs-least : (j m n : ℕ) → ((k : ℕ) → k < n → t .chain k ≡ t .chain j → pairBound t keep k j ≤ m) → largestPair t keep j n ≤ m
-    unfolding largestPair
+    unfolding largestPair greatest
     pairs-least j m zero h = omega arith
     pairs-least j m (suc k) h =
         let rest : largestPair t keep j k ≤ m = pairs-least j m k (λ i l. h i (omega arith)) in
@@ -128,7 +129,7 @@ module _ (t : Table) where
         (λ e. rw e (omega arith))
 
     pub pair-below : (k j n : ℕ) → k < n → t .chain k ≡ t .chain j → pairBound t keep k j ≤ largestPair t keep j n
-    unfolding largestPair
+    unfolding largestPair greatest
     pair-below k j zero l e = absurd (omega arith)
     pair-below k j (suc n) l e =
         by-last k n l

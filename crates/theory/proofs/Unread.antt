@@ -78,7 +78,7 @@ module _ (t : Table) where
   pair-bare keep k j = rw (demand-bare k j, lowest-bare k j, interference-bare (t .chain j) (lowest t k j) (λ u. cond (keep k j u) (t .most u) 0))
 
   largest-bare : (keep : ℕ → ℕ → ℕ → Bool) (j n : ℕ) → largestPair (bare t) keep j n ≡ largestPair t keep j n
-  unfolding largestPair
+  unfolding largestPair greatest
   largest-bare keep j zero = refl
   largest-bare keep j (suc k) = rw (largest-bare keep j k, pair-bare keep k j)
 

@@ -1,5 +1,5 @@
 -- The bounds ERT and CJA, each a list with one bound for each job, in table order. Document 01, "Bounds". Assumes nothing.
-use Rattle.laws.specs.Words.{ℕ, zero, suc, _+_, max, min, Bool, true, cond, List, leb, eqb, getD, tabulate}
+use Rattle.laws.specs.Words.{ℕ, zero, suc, _+_, max, min, Bool, true, cond, List, leb, eqb, getD, greatest, tabulate}
 use Rattle.theory.specs.{Table.Table, Table.joined, Interference.interference}
 
 -- The bound at a place, 0 beyond the list.
@@ -41,10 +41,7 @@ pairBound t keep k j = t .latest k + demand t k j + interference t (t .chain j) 
 
 -- The largest such sum over the places k below n that are of j's chain.
 unfoldable pub largestPair : Table → (ℕ → ℕ → ℕ → Bool) → ℕ → ℕ → ℕ
-largestPair t keep j zero = 0
-largestPair t keep j (suc k) =
-    let rest = largestPair t keep j k in
-    max (cond (eqb (t .chain k) (t .chain j)) (pairBound t keep k j) 0) rest
+largestPair t keep j n = greatest n (λ k. cond (eqb (t .chain k) (t .chain j)) (pairBound t keep k j) 0)
 
 -- CJA with any choice of jobs that count: for each j the largest sum over the jobs of its chain up to j.
 unfoldable pub cjaWith : Table → (ℕ → ℕ → ℕ → Bool) → List ℕ
