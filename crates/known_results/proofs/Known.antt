@@ -16,7 +16,7 @@ use Rattle.jobs.specs.Checks.{isNext, inLimits, recordCheck, recordsCheck, chec
 use Rattle.jobs.specs.Jobs.{jobAt, urgencyOf}
 use Rattle.theory.specs.Table.{joined, effectiveEarliest, tableOf}
 use Rattle.theory.specs.Interference.{openBlock, largestBlock, interference}
-use Rattle.theory.specs.Bounds.{ertRule, interferenceAt, ert, demand, lowest, counted, pairBound, largestPair, cjaWith, cja, boundAt}
+use Rattle.theory.specs.Bounds.{ertRule, interferenceAt, ert, demand, lowest, pairBound, largestPair, cjaWith, cja, boundAt}
 use Rattle.theory.specs.Rounds.{itrStart, overlap, round, sameBounds, settle, roundLimit, itr}
 use Rattle.theory.specs.Verdicts.{slack, slacks, meets}
 use Rattle.theory.specs.Claims.{Demand3}
@@ -69,7 +69,7 @@ first-and-rest : {A : Type 0} {x y : A} {xs ys : List A} → x ≡ y → xs ≡ 
 first-and-rest e f = rw (e, f)
 
 pub known-results : map byDefinition cases ≡ cases
-unfolding urgencyOf tabulate sumBelow greatest lastOf isNext inLimits recordCheck recordsCheck checkOf joined effectiveEarliest openBlock largestBlock interference ertRule interferenceAt ert demand lowest counted pairBound largestPair cjaWith cja itrStart overlap round sameBounds settle roundLimit itr slacks meets everyBelow inRange timesFit machineCheck complete predecessorComplete ready outranks goesFirst pickUpTo pick next noted rows onward carried
+unfolding urgencyOf tabulate sumBelow greatest lastOf isNext inLimits recordCheck recordsCheck checkOf joined effectiveEarliest openBlock largestBlock interference ertRule interferenceAt ert demand lowest pairBound largestPair cjaWith cja itrStart overlap round sameBounds settle roundLimit itr slacks meets everyBelow inRange timesFit machineCheck complete predecessorComplete ready outranks goesFirst pickUpTo pick next noted rows onward carried
 known-results =
     first-and-rest (figures p1 refl refl refl refl refl refl refl refl refl (first-and-rest (settled-run (p1 .jobs) p2 refl (omega arith) refl refl) (first-and-rest (settled-run (p1 .jobs) p3 refl (omega arith) refl refl) refl)))
     (first-and-rest (figures (p4 12 (pos 0) true) refl refl refl refl refl refl refl refl refl (first-and-rest (settled-run (p4 12 (pos 0) true .jobs) p4With3 refl (omega arith) refl refl) refl))

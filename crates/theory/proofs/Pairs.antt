@@ -17,7 +17,7 @@ use Rattle.laws.proofs.Sums.{sum-const}
 use Rattle.jobs.specs.Limits.{maxTime}
 use Rattle.theory.specs.Table.{Table}
 use Rattle.theory.specs.Interference.{interference}
-use Rattle.theory.specs.Bounds.{demand, lowest, counted, pairBound, largestPair}
+use Rattle.theory.specs.Bounds.{demand, lowest, pairBound, largestPair}
 use Rattle.theory.specs.Rounds.{overlap}
 use Rattle.theory.proofs.WellFormed.{Ordered, chain-between}
 use Rattle.theory.proofs.Rules.{demand-one, demand-front, lowest-one, lowest-front, pairs-least}
@@ -134,7 +134,7 @@ module _ (count : ℕ) (chain urgency most earliest latest bound : List ℕ) whe
   pub pair-is : (k j sum low delay : ℕ) → k ≤ j → sum ≡ demandFrom t k j → low ≡ lowestFrom t k j
       → delay ≡ interference (lent count chain urgency most earliest earliest) (getD chain j 0) low (spanned most earliest bound (getD earliest k 0) (getD bound j 0))
       → getD latest k 0 + sum + delay ≡ pairBound t (overlap t bound) k j
-  unfolding pairBound counted overlap weightOf
+  unfolding pairBound overlap weightOf
   pair-is k j sum low delay l es el ed =
       rw (es, ed, el, demand-in t j k l, lowest-in t j k l)
       (ap (λ (d : ℕ). getD latest k 0 + demand t k j + d)

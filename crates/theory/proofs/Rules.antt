@@ -1,11 +1,12 @@
 -- The rules of the bounds, step by step: the ERT rule, demand and lowest urgency of the jobs from k to j, the largest pair, and the bound at a place.
---   First    the job at a place has no predecessor
---   always   the choice that leaves no job out
+--   First     the job at a place has no predecessor
+--   always    the choice that leaves no job out
+--   counted   what a job counts in a pair
 -- Assumes nothing.
 use Prim.Native.Nat.{ℕ, zero, suc, _+_, _≤_, _<_, max, min}
 use mathlib.Core.Path.{_≡_, refl, ap, _∙_}
 use mathlib.Core.Logic.{_≢_}
-use mathlib.Core.Bool.{Bool, true}
+use mathlib.Core.Bool.{Bool, true, cond}
 use native.Mathlib.Omega.{arith}
 use native.Mathlib.Nat.{zero-add}
 use lib.Dec.{eqb}
@@ -24,6 +25,9 @@ First t v = (w : ℕ) → v ≡ suc w → t .chain w ≢ t .chain v
 
 abbrev pub always : ℕ → ℕ → ℕ → Bool
 always k j u = true
+
+abbrev pub counted : Table → (ℕ → ℕ → ℕ → Bool) → ℕ → ℕ → ℕ → ℕ
+counted t keep k j u = cond (keep k j u) (t .most u) 0
 
 module _ (t : Table) where
   pub first-zero : First t 0

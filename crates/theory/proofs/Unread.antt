@@ -10,7 +10,7 @@ use lib.Dec.{eqb}
 use Rattle.laws.specs.Words.{sumBelow, tabulate, greatest}
 use Rattle.theory.specs.Table.{Table, joined}
 use Rattle.theory.specs.Interference.{openBlock, largestBlock, interference}
-use Rattle.theory.specs.Bounds.{ertRule, interferenceAt, ert, demand, lowest, counted, pairBound, largestPair, cjaWith, cja}
+use Rattle.theory.specs.Bounds.{ertRule, interferenceAt, ert, demand, lowest, pairBound, largestPair, cjaWith, cja}
 use Rattle.theory.specs.Rounds.{itrStart, overlap, round, after, itr}
 use Rattle.theory.specs.Claims.{Repeats}
 use Rattle.theory.proofs.Settling.{itr-settled, settled-unique}
@@ -74,7 +74,7 @@ module _ (t : Table) where
   lowest-bare k (suc j) = rw (lowest-bare k j)
 
   pair-bare : (keep : ℕ → ℕ → ℕ → Bool) (k j : ℕ) → pairBound (bare t) keep k j ≡ pairBound t keep k j
-  unfolding pairBound counted
+  unfolding pairBound
   pair-bare keep k j = rw (demand-bare k j, lowest-bare k j, interference-bare (t .chain j) (lowest t k j) (λ u. cond (keep k j u) (t .most u) 0))
 
   largest-bare : (keep : ℕ → ℕ → ℕ → Bool) (j n : ℕ) → largestPair (bare t) keep j n ≡ largestPair t keep j n

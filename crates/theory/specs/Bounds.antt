@@ -31,13 +31,10 @@ unfoldable pub lowest : Table → ℕ → ℕ → ℕ
 lowest t k zero = t .urgency 0
 lowest t k (suc j) = cond (leb k j) (min (lowest t k j) (t .urgency (suc j))) (t .urgency (suc j))
 
--- What a job u of another chain counts in the pair (k, j): its most time, or 0 where `keep` leaves it out.
-unfoldable pub counted : Table → (ℕ → ℕ → ℕ → Bool) → ℕ → ℕ → ℕ → ℕ
-counted t keep k j u = cond (keep k j u) (t .most u) 0
-
--- The sum for the pair (k, j): release of k + the most times from k to j + interference at the lowest urgency from k to j.
+-- The sum for the pair (k, j): release of k + the most times from k to j + interference at the lowest urgency from k to j, where a job u of another
+-- chain counts its most time, or 0 if `keep` leaves it out.
 unfoldable pub pairBound : Table → (ℕ → ℕ → ℕ → Bool) → ℕ → ℕ → ℕ
-pairBound t keep k j = t .latest k + demand t k j + interference t (t .chain j) (lowest t k j) (counted t keep k j)
+pairBound t keep k j = t .latest k + demand t k j + interference t (t .chain j) (lowest t k j) (λ u. cond (keep k j u) (t .most u) 0)
 
 -- The largest such sum over the places k below n that are of j's chain.
 unfoldable pub largestPair : Table → (ℕ → ℕ → ℕ → Bool) → ℕ → ℕ → ℕ
