@@ -8,7 +8,6 @@ use mathlib.Core.Logic.{_⊎_, inl, inr}
 use native.Mathlib.Omega.{arith}
 use native.Mathlib.Nat.{add-zero, zero-add}
 use lib.ListN.{length, getD}
-use Rattle.laws.specs.Words.{sumBelow}
 use Rattle.laws.proofs.Tests.{by-test, by-equal, both-ways}
 use Rattle.laws.proofs.Tabulate.{length-tabulate, getD-tabulate}
 use Rattle.jobs.specs.Limits.{maxJobs}
@@ -27,7 +26,7 @@ use Rattle.machine.proofs.Ticking.{pick-chosen, pick-none, next-moved, 
 use Rattle.machine.proofs.Course.{none-done, after-next, pick-settled, going, going-time}
 
 work-idle : (run : List Entry) (u n : ℕ) → entryAt run n ≡ idle → work run u (suc n) ≡ work run u n
-unfolding work sumBelow names
+unfolding work names
 work-idle run u n e = rw e (add-zero (work run u n))
 
 module _ (t : Table) (times : List ℕ) (R : ℕ) (few : t .count ≤ maxJobs) (released : (u : ℕ) → u < t .count → t .earliest u ≤ R) (n : ℕ) where
@@ -65,7 +64,7 @@ module _ (t : Table) (times : List ℕ) (R : ℕ) (few : t .count ≤ maxJobs) (
 
   -- a job's work in the entries is that of the state
   pub work-is : (i u : ℕ) → i ≤ n → work run u i ≡ getD (after t times i .work) u 0
-  work-is zero u l = unfold work sumBelow in unfold after in sym (none-done maxJobs u)
+  work-is zero u l = unfold work in unfold after in sym (none-done maxJobs u)
   work-is (suc i) u l = work-step i u l (work-is i u (omega arith))
 
   module _ (i : ℕ) (l : i < n) where

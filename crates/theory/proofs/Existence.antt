@@ -6,7 +6,6 @@ use mathlib.Core.List.{List, [], _∷_, _++_}
 use native.Mathlib.Omega.{arith}
 use lib.ListN.{length, length-append, List·getD-append}
 use lib.Seq.{getD-append-seam}
-use Rattle.laws.specs.Words.{sumBelow}
 use Rattle.laws.proofs.Tests.{by-order, by-equal, by-last}
 use Rattle.theory.specs.Table.{Table}
 use Rattle.theory.specs.Runs.{Entry, idle, runs, entryAt, work, timeAt, Complete, PredecessorComplete, Ready, LegalEntry, Legal, Times, Releases}
@@ -17,7 +16,7 @@ unfolding entryAt
 entry-append r s n l = List·getD-append r s idle n l
 
 work-append : (r s : List Entry) (u n : ℕ) → n ≤ length r → work (r ++ s) u n ≡ work r u n
-unfolding work sumBelow
+unfolding work
 work-append r s u zero l = refl
 work-append r s u (suc n) l = rw (entry-append r s n l, work-append r s u n (omega arith))
 

@@ -11,7 +11,6 @@ use native.Mathlib.Omega.{arith}
 use lib.Dec.{eqb}
 use lib.ListN.{length, length-map, List·getD-map}
 use borrow.Author.Tests.{eqb-true, eq-eqb, ne-eqb}
-use Rattle.laws.specs.Words.{sumBelow}
 use Rattle.laws.proofs.Tests.{by-test, by-equal, by-last, same-test}
 use Rattle.theory.specs.Table.{Table}
 use Rattle.theory.specs.Runs.{Entry, idle, runs, names, entryAt, work, timeAt, Complete, PredecessorComplete, Ready, LegalEntry, Legal}
@@ -97,7 +96,7 @@ module _ {part t : Table} {place number : ℕ → ℕ} (h : Part part t place nu
 
   -- the work of a kept job is the same in both
   pub work-same : (i n : ℕ) → i < part .count → work partRun i n ≡ work run (place i) n
-  unfolding work sumBelow
+  unfolding work
   work-same i zero l = refl
   work-same i (suc n) l = rw (entry-same n, names-same (entryAt run n) i l, work-same i n l)
 

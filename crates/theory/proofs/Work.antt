@@ -10,7 +10,6 @@ use native.Mathlib.Omega.{arith}
 use native.Mathlib.Nat.{add-zero, add-suc}
 use lib.ListN.{length, List·getD-eq-default}
 use borrow.Author.Tests.{eqb-true, eq-eqb, ne-eqb}
-use Rattle.laws.specs.Words.{sumBelow}
 use Rattle.laws.proofs.Tests.{by-test, by-order, by-equal, by-last, both-ways}
 use Rattle.theory.specs.Table.{Table}
 use Rattle.theory.specs.Runs.{Entry, idle, runs, names, entryAt, work, timeAt, Complete, LegalEntry, Run}
@@ -33,11 +32,11 @@ pub record RanAt (run : List Entry) (u a b : ℕ) : Type 0 where
 
 module _ (run : List Entry) where
   pub work-here : (u n : ℕ) → entryAt run n ≡ runs u → work run u (suc n) ≡ work run u n + 1
-  unfolding work sumBelow names
+  unfolding work names
   work-here u n e = rw (e, eq-eqb u u refl)
 
   pub work-away : (u v n : ℕ) → entryAt run n ≡ runs u → u ≢ v → work run v (suc n) ≡ work run v n
-  unfolding work sumBelow names
+  unfolding work names
   work-away u v n e h = rw (e, ne-eqb u v h) (add-zero (work run v n))
 
   -- either the entry at n names u, or the work of u stays
@@ -46,7 +45,7 @@ module _ (run : List Entry) where
   by-entry u n f g =
       by-test (names (entryAt run n) u)
       (λ e. let q : entryAt run n ≡ runs u = named (entryAt run n) u e in f q (work-here u n q))
-      (λ e. g (unfold work sumBelow in rw e (add-zero (work run u n))))
+      (λ e. g (unfold work in rw e (add-zero (work run u n))))
 
   work-add : (u n d : ℕ) → work run u n ≤ work run u (n + d)
   work-add u n zero = rw (add-zero n) (omega arith)
@@ -82,7 +81,7 @@ module _ {t : Table} (well : WellFormed t) {release : ℕ → ℕ} {times : List
       (λ l. subst (LegalEntry t release times run n) e (is .legal n l))
 
   pub work-most : (u n : ℕ) → work run u n ≤ timeAt times u
-  work-most u zero = unfold work sumBelow in omega arith
+  work-most u zero = unfold work in omega arith
   work-most u (suc n) =
       let before : work run u n ≤ timeAt times u = work-most u n in
       by-entry run u n (λ e q. let ne : work run u n ≢ timeAt times u = legal-at n u e .1 .unfinished in omega arith) (λ q. omega arith)
@@ -92,7 +91,7 @@ module _ {t : Table} (well : WellFormed t) {release : ℕ → ℕ} {times : List
 
   -- a job with some work was run
   pub ran-before : (u n : ℕ) → 0 < work run u n → RanAt run u 0 n
-  unfolding work sumBelow
+  unfolding work
   ran-before u n h = ran run u 0 n h
 
   -- when a job is run, all before it in its chain are complete

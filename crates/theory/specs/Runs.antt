@@ -1,5 +1,5 @@
 -- The runs of demand 3. Document 01, "The runs of demand 3". Nothing here is taken from the machine or its state. Assumes nothing.
-use Rattle.laws.specs.Words.{ℕ, zero, suc, _≤_, _<_, _≡_, Bool, false, cond, List, eqb, length, getD, sumBelow}
+use Rattle.laws.specs.Words.{ℕ, zero, suc, _+_, _≤_, _<_, _≡_, Bool, false, cond, List, eqb, length, getD}
 use Rattle.theory.specs.Table.{Table}
 
 -- One tick of a run: a job of the table, by its place, or idle.
@@ -18,7 +18,8 @@ entryAt run n = getD run n idle
 
 -- A job's work at n: the number of entries before n that name it.
 unfoldable pub work : List Entry → ℕ → ℕ → ℕ
-work run u n = sumBelow n (λ k. cond (names (entryAt run k) u) 1 0)
+work run u zero = 0
+work run u (suc n) = work run u n + cond (names (entryAt run n) u) 1 0
 
 -- The running time of a job, of which one for each job goes with the run.
 unfoldable pub timeAt : List ℕ → ℕ → ℕ
