@@ -102,7 +102,7 @@ module _ (js : List Job) (times : List ℕ) (passed : machineCheck js times ≡ 
       let rel = released-by js times passed in
       let at = run-entry t times lastRelease few rel (suc m) m (omega arith) in
       let done : Complete times (entries t times (suc m)) u (boundAt (itr t .bounds) u)
-      = demand-3 js (set-passed js times passed) .holds .by-itr u l (t .earliest) times (entries t times (suc m)) is (omega (arith, run-length t times lastRelease few rel (suc m))) in
+      = demand-3 js (set-passed js times passed) .by-itr u l (t .earliest) times (entries t times (suc m)) is (omega (arith, run-length t times lastRelease few rel (suc m))) in
       absurd (legal-at well is m u (at ∙ e) .1 .unfinished (complete-stays well is u (boundAt (itr t .bounds) u) m late done)))
       (λ early. early)
 

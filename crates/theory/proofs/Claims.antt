@@ -38,7 +38,9 @@ pub demand-3 : EveryAccepted Demand3
 demand-3 =
     of-well-formed Demand3 (λ t well.
     record {
-      holds = record { by-ert = ert-holds t well; by-cja = cja-holds t well; by-itr = itr-holds t well };
+      by-ert = ert-holds t well;
+      by-cja = cja-holds t well;
+      by-itr = itr-holds t well;
       itr-cja = itr-le-cja t;
       cja-ert = cja-le-ert t (well .ordered);
       rounds = rounds-limit t;

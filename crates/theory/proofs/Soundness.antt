@@ -14,8 +14,8 @@ use Rattle.theory.specs.Table.{Table}
 use Rattle.theory.specs.Interference.{largestBlock, interference}
 use Rattle.theory.specs.Bounds.{boundAt, demand, lowest, pairBound, cja, ert}
 use Rattle.theory.specs.Rounds.{overlap, round, itr}
-use Rattle.theory.specs.Runs.{Entry, work, timeAt, Complete, PredecessorComplete, Run, CompleteBy}
-use Rattle.theory.specs.Claims.{AtMost}
+use Rattle.theory.specs.Runs.{Entry, work, timeAt, Complete, PredecessorComplete, Run}
+use Rattle.theory.specs.Claims.{AtMost, Holds}
 use Rattle.theory.proofs.WellFormed.{WellFormed, chain-between}
 use Rattle.theory.proofs.Rules.{counted, pair-below, at-cja}
 use Rattle.theory.proofs.Chains.{chainSum, chain-most, own-and-others, own-sum}
@@ -173,10 +173,6 @@ module _ {t : Table} (well : WellFormed t) {release : ℕ → ℕ} {times : List
       (λ done. done)
       (λ late.
       absurd (not-late (record { inside = jl; long = long; late = late; from = critical well is j }) bounds refl (λ u ul l. complete-by bounds fixed m u ul (omega arith) (omega arith)) fixed))
-
--- each job is complete no later than its bound
-abbrev pub Holds : Table → List ℕ → Type 0
-Holds t bounds = (j : ℕ) → j < t .count → CompleteBy t j (boundAt bounds j)
 
 module _ (t : Table) (well : WellFormed t) where
   pub fixed-holds : (bounds : List ℕ) → round t bounds ≡ bounds → Holds t bounds

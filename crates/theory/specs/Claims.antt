@@ -9,11 +9,9 @@ use Rattle.theory.specs.{Table.Table, Table.tableOf, Bounds.boundAt, Bou
 abbrev pub EveryAccepted : (Table → Type 0) → Type 0
 EveryAccepted Claim = (js : List Job) → checkOf js ≡ Check.Passed → Claim (tableOf js)
 
--- For each of the three algorithms, a claim at each place of the table; the claim is handed the algorithm's bound, by table and place.
-pub record EachBound (t : Table) (Claim : (Table → ℕ → ℕ) → ℕ → Type 0) : Type 0 where
-  pub by-ert : (i : ℕ) → i < t .count → Claim (λ s. boundAt (ert s)) i
-  pub by-cja : (i : ℕ) → i < t .count → Claim (λ s. boundAt (cja s)) i
-  pub by-itr : (i : ℕ) → i < t .count → Claim (λ s. boundAt (itr s .bounds)) i
+-- Each job is complete no later than its bound.
+abbrev pub Holds : Table → List ℕ → Type 0
+Holds t bounds = (j : ℕ) → j < t .count → CompleteBy t j (boundAt bounds j)
 
 -- The first bounds are at most the others, at each of the first n places.
 abbrev pub AtMost : ℕ → List ℕ → List ℕ → Type 0
@@ -32,7 +30,9 @@ pub record Settled (t : Table) (answer : Answer) : Type 0 where
 
 -- `demand-3`: for all running times and releases in range and any pick among equals the bounds hold; they are in order, and the rounds end as they should.
 pub record Demand3 (t : Table) : Type 0 where
-  pub holds : EachBound t (λ bound i. CompleteBy t i (bound t i))
+  pub by-ert : Holds t (ert t)
+  pub by-cja : Holds t (cja t)
+  pub by-itr : Holds t (itr t .bounds)
   pub itr-cja : AtMost (t .count) (itr t .bounds) (cja t)
   pub cja-ert : AtMost (t .count) (cja t) (ert t)
   pub rounds : itr t .rounds ≤ roundLimit t
@@ -57,8 +57,10 @@ pub record Runnable (t : Table) : Type 0 where
   pub each-length : (r : ℕ → ℕ) (x : List ℕ) → Releases t r → Times t x → (n : ℕ) → RunOf t r x n
 
 -- `bounds-limited`: all bounds are below 10,000,000,000.
-abbrev pub Bounded : Table → Type 0
-Bounded t = EachBound t (λ bound i. bound t i < boundLimit)
+pub record Bounded (t : Table) : Type 0 where
+  pub by-ert : (i : ℕ) → i < t .count → boundAt (ert t) i < boundLimit
+  pub by-cja : (i : ℕ) → i < t .count → boundAt (cja t) i < boundLimit
+  pub by-itr : (i : ℕ) → i < t .count → boundAt (itr t .bounds) i < boundLimit
 
 -- `few-rounds`: there are at most as many rounds as jobs, and one where there is no job.
 abbrev pub FewRounds : Table → Type 0
@@ -69,8 +71,10 @@ abbrev pub Least : Table → Type 0
 Least t = (bounds : List ℕ) → round t bounds ≡ bounds → AtMost (t .count) (itr t .bounds) bounds
 
 -- The bounds of a part, held to those of the table by a relation.
-abbrev pub Compared : (ℕ → ℕ → Type 0) → Table → Table → (ℕ → ℕ) → Type 0
-Compared Relation part t place = EachBound part (λ bound i. Relation (bound part i) (bound t (place i)))
+pub record Compared (Relation : ℕ → ℕ → Type 0) (part t : Table) (place : ℕ → ℕ) : Type 0 where
+  pub by-ert : (i : ℕ) → i < part .count → Relation (boundAt (ert part) i) (boundAt (ert t) (place i))
+  pub by-cja : (i : ℕ) → i < part .count → Relation (boundAt (cja part) i) (boundAt (cja t) (place i))
+  pub by-itr : (i : ℕ) → i < part .count → Relation (boundAt (itr part .bounds) i) (boundAt (itr t .bounds) (place i))
 
 -- `taken-off`: no bound rises where chains are taken off.
 abbrev pub NoLater : Table → Type 0
