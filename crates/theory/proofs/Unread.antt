@@ -15,7 +15,6 @@ use Rattle.theory.specs.Rounds.{itrStart, overlap, round, after, itr}
 use Rattle.theory.specs.Claims.{Repeats}
 use Rattle.theory.proofs.Settling.{itr-settled, settled-unique}
 use Rattle.theory.proofs.Rules.{always}
-use Rattle.theory.proofs.Chains.{chains}
 
 -- two tables of the same count, chains and urgencies
 module _ (n : ℕ) (chain urgency : ℕ → ℕ) (least most earliest latest least' most' earliest' latest' : ℕ → ℕ) where
