@@ -12,7 +12,7 @@ use Rattle.laws.proofs.Filling.{filled-none, filled-next, filled-at}
 use Rattle.jobs.specs.declared.job.Job.{Job}
 use Rattle.jobs.specs.Limits.{maxJobs}
 use Rattle.jobs.specs.Jobs.{jobAt, urgencyOf}
-use Rattle.theory.specs.Table.{Table, effectiveEarliest, effectiveLatest, given, tableOf}
+use Rattle.theory.specs.Table.{Table, effectiveEarliest, given, tableOf}
 use Rattle.theory.proofs.WellFormed.{Ordered, chain-le}
 use Rattle.analysis.specs.declared.columns.Columns.{Columns}
 use Rattle.theory.proofs.Predecessors.{notBefore, release-by}
@@ -111,7 +111,6 @@ module _ (js : List Job) where
       gathered-earliest = e ∙ rw (here, h .last-is, h .ready-is) (sym (release-by (given js) i))
 
       latest-is : (latest : ℕ) → latest ≡ max (job .release) earliest → latest ≡ t .latest i
-      unfolding effectiveLatest
       latest-is latest q = omega (arith, gathered-earliest, ap (λ (j : Job). j .release) here)
 
       pub gathered-next : Ordered t → (urgency : ℕ) → urgency ≡ urgencyOf job → (latest : ℕ) → latest ≡ max (job .release) earliest → (next : ℕ) → next ≡ cond (eqb last (job .chain)) first i

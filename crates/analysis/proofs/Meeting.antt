@@ -1,15 +1,14 @@
 -- Deadlines met job by job, with bounds as they are padded in an answer. Assumes nothing.
-use Prim.Native.Nat.{ℕ, zero, suc, _+_, _≤_, _<_}
-use mathlib.Core.Path.{_≡_, refl, sym, ap, _∙_}
+use Prim.Native.Nat.{ℕ, _+_, _≤_, _<_}
+use mathlib.Core.Path.{_≡_, sym, _∙_}
 use mathlib.Core.Bool.{Bool, true, false}
 use mathlib.Core.List.{List}
 use native.Mathlib.Omega.{arith}
-use native.Mathlib.Numerals.{add-one}
 use lib.Dec.{leb}
 use lib.ListN.{length}
-use borrow.Author.Tests.{le-leb}
-use Rattle.laws.specs.Words.{padded}
-use Rattle.laws.proofs.Tests.{never-true, and-both}
+use borrow.Author.Tests.{le-leb, lt-leb}
+use Rattle.laws.specs.Words.{everyBelow, padded}
+use Rattle.laws.proofs.Every.{every-next, every-not, every-ext}
 use Rattle.laws.proofs.Lists.{getD-padded}
 use Rattle.jobs.specs.declared.job.Job.{Job}
 use Rattle.jobs.specs.declared.set.JobSet.{JobSet}
@@ -18,29 +17,25 @@ use Rattle.jobs.specs.Jobs.{jobsOf, jobAt}
 use Rattle.jobs.proofs.Sets.{length-jobs}
 use Rattle.theory.specs.Bounds.{boundAt}
 use Rattle.theory.specs.Verdicts.{meets}
-use Rattle.theory.proofs.Verdicts.{meets-at}
 
-module _ (js : List Job) (bounds : List ℕ) where
-  pub meets-none : meets js bounds 0 ≡ true
+-- the bound of the job at a place is at or before its deadline
+abbrev pub metAt : List Job → List ℕ → ℕ → Bool
+metAt js bounds i = leb (boundAt bounds i) (jobAt js i .deadline)
+
+-- the test of each job of a set
+module _ (set : JobSet) (bounds : List ℕ) where
+  pub meets-more : (n : ℕ) → everyBelow n (metAt (jobsOf set) bounds) ≡ true → boundAt bounds n ≤ jobAt (jobsOf set) n .deadline
+      → everyBelow (n + 1) (metAt (jobsOf set) bounds) ≡ true
+  meets-more n h due = every-next _ n h (le-leb _ _ due)
+
+  pub meets-all : (n : ℕ) → n ≡ set .count → everyBelow n (metAt (jobsOf set) bounds) ≡ true → meets (jobsOf set) bounds ≡ true
   unfolding meets
-  meets-none = refl
+  meets-all n e h = rw (length-jobs set ∙ sym e) h
 
-  pub meets-more : (n : ℕ) → meets js bounds n ≡ true → boundAt bounds n ≤ jobAt js n .deadline → meets js bounds (n + 1) ≡ true
+  pub meets-not : (i : ℕ) → i < set .count → jobAt (jobsOf set) i .deadline < boundAt bounds i → meets (jobsOf set) bounds ≡ false
   unfolding meets
-  meets-more n e l =
-      rw add-one
-      (and-both (meets js bounds n) (leb (boundAt bounds n) (jobAt js n .deadline)) e (le-leb (boundAt bounds n) (jobAt js n .deadline) l))
+  meets-not i l late = every-not _ (length (jobsOf set)) i (omega (arith, length-jobs set)) (lt-leb _ _ late)
 
-  pub meets-not : (n i : ℕ) → i < n → jobAt js i .deadline < boundAt bounds i → meets js bounds n ≡ false
-  meets-not n i il l = never-true (meets js bounds n) (λ e. omega (arith, meets-at js bounds n e i il))
-
-  pub meets-padded : (n : ℕ) → meets js (padded maxJobs 0 bounds) n ≡ meets js bounds n
+  pub meets-padded : (padding : List ℕ) (met : Bool) → padding ≡ padded maxJobs 0 bounds → met ≡ meets (jobsOf set) padding → met ≡ meets (jobsOf set) bounds
   unfolding meets
-  meets-padded zero = refl
-  meets-padded (suc n) = rw (meets-padded n, getD-padded maxJobs 0 bounds n)
-
--- the verdict's test, as the code asks it of a set
-pub meets-set : (set : JobSet) (bounds padding : List ℕ) (met : Bool) → padding ≡ padded maxJobs 0 bounds → met ≡ meets (jobsOf set) padding (set .count)
-    → met ≡ meets (jobsOf set) bounds (length (jobsOf set))
-meets-set set bounds padding met e q =
-    q ∙ ap (λ (b : List ℕ). meets (jobsOf set) b (set .count)) e ∙ meets-padded (jobsOf set) bounds (set .count) ∙ ap (meets (jobsOf set) bounds) (sym (length-jobs set))
+  meets-padded padding met e q = q ∙ rw e (every-ext _ _ (length (jobsOf set)) (λ i l. rw (getD-padded maxJobs 0 bounds i)))

@@ -1,5 +1,6 @@
 -- ITR round by round: the bounds so far, and that no round so far has changed none; the first that changes none is the definition's.
---   Rounding   what the loop over the rounds holds after n of them
+--   itrPassed   ITR's answer as that of an accepted set
+--   Rounding    what the loop over the rounds holds after n of them
 -- Assumes a table in its limits.
 use Prim.Native.Nat.{ℕ, zero, suc, _+_, _*_, _-_, _≤_, _<_}
 use mathlib.Core.Path.{_≡_, refl, sym, ap, subst, fun-ext, _∙_}
@@ -9,12 +10,12 @@ use mathlib.Core.List.{List}
 use native.Mathlib.Omega.{arith}
 use native.Mathlib.Nat.{mul-le-mul-right}
 use native.Mathlib.Numerals.{add-one}
-use lib.Dec.{eqb}
 use lib.ListN.{getD}
 use lib.Seq.{ext-getD}
 use borrow.Author.Tests.{eq-eqb}
 use Rattle.laws.specs.Words.{padded}
-use Rattle.laws.proofs.Tests.{by-last, by-order, both-ways, never-true, and-both}
+use Rattle.laws.proofs.Tests.{by-last, by-order, both-ways, never-true}
+use Rattle.laws.proofs.Every.{every-none, every-next}
 use Rattle.laws.proofs.Lists.{getD-padded}
 use Rattle.jobs.specs.Limits.{maxJobs}
 use Rattle.jobs.specs.declared.refusal.Check.the-variants.{Passed}
@@ -25,7 +26,6 @@ use Rattle.theory.specs.Claims.{Repeats, Settled}
 use Rattle.theory.proofs.Rules.{length-after}
 use Rattle.theory.proofs.Settling.{itr-settled, rounds-limit, settled-unique, same-at, same-refl}
 use Rattle.analysis.specs.declared.answer.Itr.{Itr}
-use Rattle.analysis.specs.Answers.{itrWith}
 use Rattle.theory.proofs.Columns.{Fit}
 
 limit-small : (t : Table) → t .count ≤ maxJobs → roundLimit t ≤ maxJobs * maxJobs * maxJobs + 2
@@ -40,11 +40,11 @@ limit-small t few =
 -- ---- the same bounds
 pub same-none : (a b : List ℕ) → sameBounds 0 a b ≡ true
 unfolding sameBounds
-same-none a b = refl
+same-none a b = every-none _
 
 pub same-more : (n : ℕ) (a b : List ℕ) → sameBounds n a b ≡ true → boundAt a n ≡ boundAt b n → sameBounds (n + 1) a b ≡ true
 unfolding sameBounds
-same-more n a b e q = rw add-one (and-both (sameBounds n a b) (eqb (boundAt a n) (boundAt b n)) e (eq-eqb (boundAt a n) (boundAt b n) q))
+same-more n a b e q = every-next _ n e (eq-eqb (boundAt a n) (boundAt b n) q)
 
 pub same-not : (n : ℕ) (a b : List ℕ) (i : ℕ) → i < n → boundAt a i ≢ boundAt b i → sameBounds n a b ≡ false
 same-not n a b i l ne = never-true (sameBounds n a b) (λ e. ne (same-at n a b e i l))
@@ -55,6 +55,9 @@ unfolding round overlap
 round-padded t b =
     ap (cjaWith t)
     (fun-ext (λ k. fun-ext (λ j. fun-ext (λ u. rw (getD-padded maxJobs 0 b u, getD-padded maxJobs 0 b j)))))
+
+abbrev pub itrPassed : Answer → Itr
+itrPassed answer = record { check = Passed; bounds = padded maxJobs 0 (answer .bounds); rounds = answer .rounds }
 
 pub record Rounding (t : Table) (bounds : List ℕ) (n : ℕ) : Type 0 where
   pub bounds-are : bounds ≡ padded maxJobs 0 (after t n)
@@ -103,11 +106,11 @@ module _ (t : Table) where
             moved = λ m l r. by-last m (suc n) l (λ q. moves s (subst (Repeats t) q r)) (λ ml. h .moved m ml r);
           })
 
-      pub rounding-last : sameBounds (t .count) next bounds ≡ true → _≡_ {A = Itr} (record { check = Passed; bounds = next; rounds = n + 1 }) (itrWith Passed (itr t))
+      pub rounding-last : sameBounds (t .count) next bounds ≡ true → _≡_ {A = Itr} (record { check = Passed; bounds = next; rounds = n + 1 }) (itrPassed (itr t))
       rounding-last s =
           let answer : Answer = record { bounds = after t (suc n); rounds = suc n } in
           let settled : Settled t answer = record { made = refl; last = repeats s; first = λ m l r. h .moved m l r } in
-          rw (add-one, next-is) (ap (itrWith Passed) (settled-unique t answer (itr t) settled (itr-settled t)))
+          rw (add-one, next-is) (ap itrPassed (settled-unique t answer (itr t) settled (itr-settled t)))
 
   -- the rounds are few enough to be counted
   pub rounds-small : Fit t → itr t .rounds ≤ maxJobs * maxJobs * maxJobs + 2

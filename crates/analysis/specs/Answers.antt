@@ -1,69 +1,53 @@
 -- The answers of the public functions. Document 01, "Bounds", the refusals of a set and of admission, and number 10. Unused places of an answer are 0.
 -- Assumes nothing.
-use Rattle.laws.specs.Words.{ℕ, _≤_, _<_, max, _≡_, Bool, true, false, cond, List, [], eqb, ℤ, pos, length, padded}
+use Rattle.laws.specs.Words.{ℕ, _≤_, max, _≡_, cond, List, [], eqb, pos, padded}
 use Rattle.jobs.specs.declared.{job.Job.Job, set.JobSet.JobSet, refusal.Refusal.Refusal, refusal.Check.Check}
 use Rattle.jobs.specs.{Limits.maxJobs, Refusals.onPass, Jobs.jobsOf, Jobs.setOf, Checks.checkOf, Joins.withChain, Joins.joinCheck}
-use Rattle.theory.specs.{Table.Table, Table.tableOf, Bounds.ert, Bounds.cja, Rounds.Answer, Rounds.roundLimit, Rounds.itr, Verdicts.slacks, Verdicts.meets, Claims.Repeats}
+use Rattle.theory.specs.{Table.tableOf, Bounds.ert, Bounds.cja, Rounds.after, Rounds.roundLimit, Rounds.itr, Verdicts.slacks, Verdicts.meets, Claims.Settled}
 use Rattle.analysis.specs.declared.{answer.Bounds.Bounds, answer.Itr.Itr, answer.Slacks.Slacks, answer.Figures.Figures, answer.Verdict.Verdict, answer.Admission.Admission}
 
 -- A figure of each job in an answer; none on a refusal.
 abbrev pub eachJob : {A : Type 0} → A → Check → List A → List A
 eachJob unused check each = padded maxJobs unused (onPass check (λ refusal. []) each)
 
--- ERT or CJA bounds in an answer.
-abbrev pub boundsWith : Check → List ℕ → Bounds
-boundsWith check bounds = record { check = check; bounds = eachJob 0 check bounds }
-
 -- The ERT bounds of a set.
 unfoldable pub ertOf : JobSet → Bounds
-ertOf set = boundsWith (checkOf (jobsOf set)) (ert (tableOf (jobsOf set)))
+ertOf set = let js = jobsOf set in record { check = checkOf js; bounds = eachJob 0 (checkOf js) (ert (tableOf js)) }
 
 -- The CJA bounds of a set.
 unfoldable pub cjaOf : JobSet → Bounds
-cjaOf set = boundsWith (checkOf (jobsOf set)) (cja (tableOf (jobsOf set)))
+cjaOf set = let js = jobsOf set in record { check = checkOf js; bounds = eachJob 0 (checkOf js) (cja (tableOf js)) }
 
--- The ITR bounds and the number of rounds in an answer.
-abbrev pub itrWith : Check → Answer → Itr
-itrWith check answer =
-    record { check = check; bounds = eachJob 0 check (answer .bounds); rounds = onPass check (λ refusal. 0) (answer .rounds) }
-
--- The ITR answer of a set.
+-- The ITR bounds of a set and the number of rounds; none on a refusal.
 unfoldable pub itrOf : JobSet → Itr
-itrOf set = itrWith (checkOf (jobsOf set)) (itr (tableOf (jobsOf set)))
+itrOf set =
+    let js = jobsOf set in
+    let answer = itr (tableOf js) in
+    record { check = checkOf js; bounds = eachJob 0 (checkOf js) (answer .bounds); rounds = onPass (checkOf js) (λ refusal. 0) (answer .rounds) }
 
 -- Each job's deadline less its ITR bound.
 unfoldable pub slacksOf : JobSet → Slacks
 slacksOf set = let js = jobsOf set in record { check = checkOf js; slacks = eachJob (pos 0) (checkOf js) (slacks js) }
 
--- All figures in one answer.
-abbrev pub figuresWith : Check → List ℕ → List ℕ → Answer → List ℤ → Figures
-figuresWith check byErt byCja answer each =
-    record {
-      check = check;
-      ert = eachJob 0 check byErt;
-      cja = eachJob 0 check byCja;
-      itr = eachJob 0 check (answer .bounds);
-      rounds = onPass check (λ refusal. 0) (answer .rounds);
-      slacks = eachJob (pos 0) check each;
-    }
-
--- The three bounds, the rounds and the slacks of a set.
+-- The figures of the four answers above in one.
 unfoldable pub figuresOf : JobSet → Figures
 figuresOf set =
-    let js = jobsOf set in
-    figuresWith (checkOf js) (ert (tableOf js)) (cja (tableOf js)) (itr (tableOf js)) (slacks js)
+    record {
+      check = checkOf (jobsOf set);
+      ert = ertOf set .bounds;
+      cja = cjaOf set .bounds;
+      itr = itrOf set .bounds;
+      rounds = itrOf set .rounds;
+      slacks = slacksOf set .slacks;
+    }
 
--- Yes where all deadlines are met.
-abbrev pub verdictIs : Bool → Verdict
-verdictIs true = Verdict.Yes
-verdictIs false = Verdict.No
-
--- The verdict on accepted jobs by 1 ERT, 2 CJA or 3 ITR: whether each bound is at or before its job's deadline.
+-- The verdict on accepted jobs by 1 ERT, 2 CJA or 3 ITR: yes where each bound is at or before its job's deadline.
 unfoldable pub verdictBy : List Job → ℕ → Verdict
 verdictBy js algorithm =
-    cond (eqb algorithm 1) (verdictIs (meets js (ert (tableOf js)) (length js)))
-    (cond (eqb algorithm 2) (verdictIs (meets js (cja (tableOf js)) (length js)))
-    (cond (eqb algorithm 3) (verdictIs (meets js (itr (tableOf js) .bounds) (length js)))
+    let by : List ℕ → Verdict = λ bounds. cond (meets js bounds) Verdict.Yes Verdict.No in
+    cond (eqb algorithm 1) (by (ert (tableOf js)))
+    (cond (eqb algorithm 2) (by (cja (tableOf js)))
+    (cond (eqb algorithm 3) (by (itr (tableOf js) .bounds))
     (Verdict.Refused Refusal.UnknownAlgorithm)))
 
 -- The verdict on a set; its own refusals come first.
@@ -82,14 +66,11 @@ admissionOf old new algorithm =
     let joined = withChain (jobsOf old) (jobsOf new) in
     admitted (onPass (joinCheck (jobsOf old) (jobsOf new)) Verdict.Refused (verdictBy joined algorithm)) old (setOf joined)
 
--- The number of rounds in the ITR answer of n jobs: it is that of the first round whose bounds equal the previous ones, it is at most
--- n × n × (n − 1) + 2, and at most n where there is a job.
-pub record Counted (t : Table) (rounds : ℕ) : Type 0 where
-  pub repeats : Repeats t rounds
-  pub first : (n : ℕ) → n < rounds → Repeats t n → ⊥
-  pub cubic : rounds ≤ roundLimit t
-  pub few : rounds ≤ max 1 (t .count)
-
--- `itr-rounds`: what the number of rounds is, for every accepted set.
+-- `itr-rounds`: the number of rounds in the ITR answer of an accepted set of n jobs is that of the first round whose bounds equal the previous ones; it is
+-- at most n × n × (n − 1) + 2, and at most n where there is a job.
 abbrev pub RoundsCounted : Type 0
-RoundsCounted = (set : JobSet) → checkOf (jobsOf set) ≡ Check.Passed → Counted (tableOf (jobsOf set)) (itrOf set .rounds)
+RoundsCounted =
+    (set : JobSet) → checkOf (jobsOf set) ≡ Check.Passed →
+    let t = tableOf (jobsOf set) in
+    let rounds = itrOf set .rounds in
+    Settled t (record { bounds = after t rounds; rounds = rounds }) × (rounds ≤ roundLimit t) × (rounds ≤ max 1 (t .count))

@@ -5,7 +5,7 @@ ghost use Rattle.jobs.specs.Jobs.{jobsOf};
 ghost use Rattle.jobs.specs.Checks.{checkOf};
 ghost use Rattle.theory.specs.Table.{tableOf};
 ghost use Rattle.theory.specs.Rounds.{itrStart, sameBounds, itr as Theory·itr};
-ghost use Rattle.analysis.specs.Answers.{itrWith, itrOf};
+ghost use Rattle.analysis.specs.Answers.{itrOf};
 ghost use Rattle.theory.proofs.Columns.{lent, Fit};
 ghost use Rattle.theory.proofs.Endings.{Ended};
 use crate::answer::Itr;
@@ -71,7 +71,7 @@ fn settle<'a>(
     latest: &'a [u64; JobSet::MAX_JOBS],
 ) -> Itr
     requires { ⌜ Fit (lent count (now chain) (now urgency) (now most) (now earliest) (now latest)) × Ended count (now chain) (now ends) ⌝ }
-    ensures { λ r. ⌜ r ≡ itrWith Check.Passed (Theory·itr (lent count (now (chain .entry)) (now (urgency .entry)) (now (most .entry)) (now (earliest .entry)) (now (latest .entry)))) ⌝ }
+    ensures { λ r. let answer = Theory·itr (lent count (now (chain .entry)) (now (urgency .entry)) (now (most .entry)) (now (earliest .entry)) (now (latest .entry))) in ⌜ r ≡ record { check = Check.Passed; bounds = padded maxJobs 0 (answer .bounds); rounds = answer .rounds } ⌝ }
 {
     let mut bounds = start(count, chain, urgency, most, earliest, latest);
     let mut rounds: u64 = 0;
@@ -104,7 +104,7 @@ fn settle<'a>(
 // The ITR answer of an accepted set.
 pub(crate) fn accepted_itr(set: JobSet) -> Itr
     requires { ⌜ checkOf (jobsOf set) ≡ Check.Passed ⌝ }
-    ensures { λ r. ⌜ r ≡ itrWith Check.Passed (Theory·itr (tableOf (jobsOf set))) ⌝ }
+    ensures { λ r. let answer = Theory·itr (tableOf (jobsOf set)) in ⌜ r ≡ record { check = Check.Passed; bounds = padded maxJobs 0 (answer .bounds); rounds = answer .rounds } ⌝ }
 {
     let count = set.count;
     let columns = columns_of(set);

@@ -1,10 +1,10 @@
 // The verdict: whether each job's bound is at or before its deadline.
-ghost use Rattle.laws.specs.Words.{_≡_, _≤_};
+ghost use Rattle.laws.specs.Words.{_≡_, cond, _≤_};
 ghost use Rattle.jobs.specs.Limits.{maxJobs};
 ghost use Rattle.jobs.specs.Jobs.{jobsOf};
 ghost use Rattle.jobs.specs.Checks.{checkOf};
 ghost use Rattle.theory.specs.Verdicts.{meets as Theory·meets};
-ghost use Rattle.analysis.specs.Answers.{verdictIs, verdictBy, verdictOf};
+ghost use Rattle.analysis.specs.Answers.{verdictBy, verdictOf};
 use crate::answer::Verdict;
 use crate::cja::accepted_cja;
 use crate::ert::accepted_ert;
@@ -17,7 +17,7 @@ use jobs::set::JobSet;
 // Whether each job of a set has its bound at or before its deadline.
 fn meets(set: JobSet, bounds: [u64; JobSet::MAX_JOBS]) -> bool
     requires { ⌜ set .count ≤ maxJobs ⌝ }
-    ensures { λ r. ⌜ r ≡ Theory·meets (jobsOf set) bounds (set .count) ⌝ }
+    ensures { λ r. ⌜ r ≡ Theory·meets (jobsOf set) bounds ⌝ }
 {
     let count = set.count;
     let mut i: usize = 0;
@@ -33,7 +33,7 @@ fn meets(set: JobSet, bounds: [u64; JobSet::MAX_JOBS]) -> bool
 
 // Yes where all deadlines are met.
 fn verdict_is(met: bool) -> Verdict
-    ensures { λ r. ⌜ r ≡ verdictIs met ⌝ }
+    ensures { λ r. ⌜ r ≡ cond met Verdict.Yes Verdict.No ⌝ }
 {
     if met {
         return Verdict::Yes;

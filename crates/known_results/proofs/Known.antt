@@ -14,9 +14,9 @@ use Rattle.jobs.specs.declared.job.Job.{Job}
 use Rattle.jobs.specs.declared.refusal.Check.the-variants.{Passed}
 use Rattle.jobs.specs.Checks.{isNext, inLimits, recordCheck, recordsCheck, checkOf}
 use Rattle.jobs.specs.Jobs.{jobAt, urgencyOf}
-use Rattle.theory.specs.Table.{joined, effectiveEarliest, effectiveLatest, tableOf}
-use Rattle.theory.specs.Interference.{openBlock, largestBlock, chains, interference}
-use Rattle.theory.specs.Bounds.{ertRule, interferenceAt, ert, demand, lowest, counted, pairBound, largestPair, cjaWith, cja, boundAt}
+use Rattle.theory.specs.Table.{joined, effectiveEarliest, tableOf}
+use Rattle.theory.specs.Interference.{openBlock, largestBlock, interference}
+use Rattle.theory.specs.Bounds.{ertRule, interferenceAt, ert, demand, lowest, pairBound, largestPair, cjaWith, cja, boundAt}
 use Rattle.theory.specs.Rounds.{itrStart, overlap, round, sameBounds, settle, roundLimit, itr}
 use Rattle.theory.specs.Verdicts.{slack, slacks, meets}
 use Rattle.theory.specs.Claims.{Demand3}
@@ -66,7 +66,7 @@ figures : (c : Case) → checkOf (jobsIn c) ≡ c .check → ert (tableOf (jobsI
     → itr (tableOf (jobsIn c)) .bounds ≡ itrIn c
     → itr (tableOf (jobsIn c)) .rounds ≡ c .rounds
     → tabulate 0 (length (jobsIn c)) (knownBy (jobsIn c) (ertIn c) (cjaIn c) (itrIn c)) ≡ c .jobs
-    → meets (jobsIn c) (itrIn c) (length (jobsIn c)) ≡ c .verdict
+    → meets (jobsIn c) (itrIn c) ≡ c .verdict
     → map (λ (r : KnownRun). runWith (jobsIn c) (r .0)) (c .runs) ≡ c .runs
     → byDefinition c ≡ c
 unfolding byDefinition
@@ -77,7 +77,7 @@ first-and-rest : {A : Type 0} {x y : A} {xs ys : List A} → x ≡ y → xs ≡ 
 first-and-rest e f = rw (e, f)
 
 pub known-results : map byDefinition cases ≡ cases
-unfolding urgencyOf tabulate sumBelow greatest lastOf isNext inLimits recordCheck recordsCheck checkOf joined effectiveEarliest effectiveLatest openBlock largestBlock chains interference ertRule interferenceAt ert demand lowest counted pairBound largestPair cjaWith cja itrStart overlap round sameBounds settle roundLimit itr slacks meets everyBelow inRange timesFit machineCheck complete predecessorComplete ready outranks goesFirst pickUpTo pick next noted rows onward carried
+unfolding urgencyOf tabulate sumBelow greatest lastOf isNext inLimits recordCheck recordsCheck checkOf joined effectiveEarliest openBlock largestBlock interference ertRule interferenceAt ert demand lowest pairBound largestPair cjaWith cja itrStart overlap round sameBounds settle roundLimit itr slacks meets everyBelow inRange timesFit machineCheck complete predecessorComplete ready outranks goesFirst pickUpTo pick next noted rows onward carried
 known-results =
     first-and-rest (figures p1 refl refl refl refl refl refl refl (first-and-rest (settled-run (jobsIn p1) p2 refl (omega arith) refl refl) (first-and-rest (settled-run (jobsIn p1) p3 refl (omega arith) refl refl) refl)))
     (first-and-rest (figures (p4 12 (pos 0) true) refl refl refl refl refl refl refl (first-and-rest (settled-run (jobsIn (p4 12 (pos 0) true)) p4With3 refl (omega arith) refl refl) refl))

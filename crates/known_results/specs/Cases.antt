@@ -46,7 +46,7 @@ byDefinition c =
       jobs = tabulate 0 (length js) (knownAt js);
       check = checkOf js;
       rounds = itr (tableOf js) .rounds;
-      verdict = meets js (itr (tableOf js) .bounds) (length js);
+      verdict = meets js (itr (tableOf js) .bounds);
       runs = map (λ (r : KnownRun). runWith js (r .0)) (c .runs);
     }
 

@@ -1,4 +1,5 @@
 pub mod Tests
+pub mod Every
 pub mod Sums
 pub mod Greatest
 pub mod Tabulate

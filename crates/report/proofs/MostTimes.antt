@@ -1,6 +1,6 @@
 -- The most times of a set, as the code has them in an array; the machine takes those of an accepted set. Assumes nothing.
 use Prim.Native.Nat.{ℕ, zero, suc, _≤_, _<_}
-use mathlib.Core.Bool.{Bool, true}
+use mathlib.Core.Bool.{true}
 use mathlib.Core.List.{List, [], _∷_, map}
 use mathlib.Core.Path.{_≡_, refl, sym, ap, _∙_}
 use native.Mathlib.Omega.{arith}
@@ -11,6 +11,7 @@ use borrow.Author.Tests.{eq-eqb, le-leb}
 use Rattle.laws.specs.Words.{tabulate, padded, everyBelow}
 use Rattle.laws.proofs.Lists.{length-padded}
 use Rattle.laws.proofs.Tests.{and-both}
+use Rattle.laws.proofs.Every.{every-all}
 use Rattle.jobs.specs.declared.job.Job.{Job}
 use Rattle.jobs.specs.declared.set.JobSet.{JobSet}
 use Rattle.jobs.specs.declared.refusal.Check.the-variants.{Passed}
@@ -56,11 +57,6 @@ pub most-room : (s : JobSet) (most : List ℕ) → checkOf (jobsOf s) ≡ Passed
 most-room s most passed e =
     let few : length (mostTimes (jobsOf s)) ≤ maxJobs = omega (arith, length-most (jobsOf s), accepted (jobsOf s) passed .few) in
     omega (arith, ap length e, length-padded maxJobs 0 (mostTimes (jobsOf s)) few, length-most (jobsOf s), length-jobs s)
-
-every-all : (f : ℕ → Bool) (n : ℕ) → ((i : ℕ) → i < n → f i ≡ true) → everyBelow n f ≡ true
-unfolding everyBelow
-every-all f zero h = refl
-every-all f (suc n) h = and-both (everyBelow n f) (f n) (every-all f n (λ i l. h i (omega arith))) (h n (omega arith))
 
 module _ (js : List Job) (passed : checkOf js ≡ Passed) where
   most-in-range : (i : ℕ) → i < length js → inRange (tableOf js) (mostTimes js) i ≡ true

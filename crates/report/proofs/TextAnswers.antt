@@ -16,7 +16,7 @@ use Rattle.jobs.specs.Jobs.{jobsOf}
 use Rattle.jobs.specs.Checks.{checkOf}
 use Rattle.jobs.proofs.Sets.{length-jobs, job-at}
 use Rattle.analysis.specs.declared.answer.Figures.{Figures}
-use Rattle.analysis.specs.Answers.{figuresWith, figuresOf}
+use Rattle.analysis.specs.Answers.{ertOf, cjaOf, itrOf, slacksOf, figuresOf}
 use Rattle.theory.specs.Table.{tableOf}
 use Rattle.theory.specs.Bounds.{ert, cja}
 use Rattle.theory.specs.Rounds.{itr}
@@ -47,11 +47,10 @@ abbrev pub figureRows : JobSet → Figures → List ℕ
 figureRows s figures = boundsRows (s .jobs) (figures .ert) (figures .cja) (figures .itr) (figures .slacks) (s .count)
 
 pub figures-text : (s : JobSet) (figures : Figures) → figures ≡ figuresOf s → checkOf (jobsOf s) ≡ Passed → boundsHeader ++ figureRows s figures ≡ boundsText (jobsOf s)
-unfolding boundsText figuresOf
+unfolding boundsText ertOf cjaOf itrOf slacksOf figuresOf
 figures-text s figures e passed =
     let js = jobsOf s in
     let t = tableOf js in
-    let f : figures ≡ figuresWith Passed (ert t) (cja t) (itr t) (slacks js) = e ∙ rw passed in
     ap (λ (l : List ℕ). boundsHeader ++ l)
-    (ap (figureRows s) f ∙ rows-padded s (ert t) (cja t) (itr t .bounds) (slacks js) (s .count) (omega arith)
+    (ap (figureRows s) e ∙ rw passed (rows-padded s (ert t) (cja t) (itr t .bounds) (slacks js) (s .count) (omega arith))
     ∙ ap (boundsRows js (ert t) (cja t) (itr t .bounds) (slacks js)) (sym (length-jobs s)))

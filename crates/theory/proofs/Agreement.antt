@@ -13,12 +13,12 @@ use lib.Seq.{ext-getD, getD-take}
 use Rattle.jobs.specs.declared.job.Job.{Job}
 use Rattle.jobs.specs.Jobs.{jobAt, urgencyOf}
 use Rattle.theory.specs.Table.{Table, effective, latestOf, given, tableOf}
-use Rattle.theory.specs.Bounds.{boundAt, ert, always, cja}
+use Rattle.theory.specs.Bounds.{boundAt, ert, cja}
 use Rattle.theory.specs.Rounds.{after, Answer, itr}
 use Rattle.theory.specs.Parts.{Part, LessUrgent}
 use Rattle.theory.specs.Claims.{Repeats, Settled}
 use Rattle.theory.proofs.WellFormed.{Ordered}
-use Rattle.theory.proofs.Rules.{length-cja, length-ert, length-after}
+use Rattle.theory.proofs.Rules.{always, length-cja, length-ert, length-after}
 use Rattle.theory.proofs.Settling.{itr-settled, settled-unique}
 use Rattle.theory.proofs.LeastUrgent.{after-same, part-unmoved}
 use Rattle.theory.proofs.Releases.{effective-part}

@@ -8,7 +8,7 @@ use mathlib.Core.Bool.{Bool, cond}
 use native.Mathlib.Omega.{arith}
 use native.Mathlib.Nat.{add-zero, add-suc}
 use borrow.Author.Tests.{le-leb, lt-leb, eq-eqb, ne-eqb}
-use Rattle.laws.specs.Words.{sumBelow}
+use Rattle.laws.specs.Words.{sumBelow, greatest}
 use Rattle.laws.proofs.Tests.{by-order, by-equal}
 use Rattle.theory.specs.Table.{Table}
 use Rattle.theory.specs.Interference.{openBlock, largestBlock}
@@ -34,7 +34,7 @@ module _ (t : Table) (c target : ℕ) where
     block-ends u e l = rw (eq-eqb, lt-leb)
 
     pub largest-step : (u : ℕ) → largestBlock t c target w (suc u) ≡ max (largestBlock t c target w u) (openBlock t c target w (suc u))
-    unfolding largestBlock
+    unfolding largestBlock greatest
     largest-step u = refl
 
     pub open-largest : (n : ℕ) → openBlock t c target w n ≤ largestBlock t c target w n
@@ -60,7 +60,7 @@ module _ (t : Table) (c target : ℕ) where
         (λ e l. omega (arith, block-ends u e l))
 
     pub block-sum : (n : ℕ) → largestBlock t c target w n ≤ chainSum t w c n
-    block-sum zero = unfold largestBlock in omega arith
+    block-sum zero = unfold largestBlock greatest in omega arith
     block-sum (suc u) = omega (arith, largest-step u, block-sum u, open-sum (suc u), grows)
       where
         grows : chainSum t w c u ≤ chainSum t w c (suc u)
@@ -76,7 +76,7 @@ module _ (t : Table) (c target : ℕ) where
         (λ e l. block-ends u e l)
 
     pub block-none : (n : ℕ) → ((u : ℕ) → u < n → t .chain u ≡ c → t .urgency u < target) → largestBlock t c target w n ≡ 0
-    block-none zero h = unfold largestBlock in refl
+    block-none zero h = unfold largestBlock greatest in refl
     block-none (suc u) h = omega (arith, largest-step u, block-none u (λ v vl. h v (omega arith)), open-none (suc u) h)
 
   -- blocks grow with their weights
@@ -91,7 +91,7 @@ module _ (t : Table) (c target : ℕ) where
         (λ e l. omega (arith, block-ends w u e l))
 
     pub block-mono : (n : ℕ) → ((u : ℕ) → u < n → t .chain u ≡ c → w u ≤ v u) → largestBlock t c target w n ≤ largestBlock t c target v n
-    block-mono zero h = unfold largestBlock in omega arith
+    block-mono zero h = unfold largestBlock greatest in omega arith
     block-mono (suc u) h = omega (arith, largest-step w u, largest-step v u, block-mono u (λ i il. h i (omega arith)), open-mono (suc u) h)
 
 -- Job u does x u. What it does, it does as an urgent job whose weight is at least that; of three jobs of the chain the middle one does something if
@@ -131,7 +131,7 @@ module _ (t : Table) (c target : ℕ) (w x : ℕ → ℕ) (g : Together t c targ
       (λ cu. omega (arith, chain-out t x c u cu, block-out t c target w u cu, open-holds u e (omega arith) el ce xe))
 
   pub block-holds : (n : ℕ) → n ≤ t .count → chainSum t x c n ≤ largestBlock t c target w n
-  block-holds zero l = unfold chainSum sumBelow largestBlock in omega arith
+  block-holds zero l = unfold chainSum sumBelow largestBlock greatest in omega arith
   block-holds (suc u) l =
       let below : chainSum t x c u ≤ largestBlock t c target w u = block-holds u (omega arith) in
       by-equal (t .chain u) c

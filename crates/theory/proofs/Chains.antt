@@ -1,5 +1,6 @@
 -- Sums over the jobs of one chain: a sum over all jobs is the sum over the chains of these.
 --   chainSum   the sum of x over the jobs of chain c among the first n
+--   chains     the greatest chain number
 -- Assumes nothing.
 use Prim.Native.Nat.{ℕ, zero, suc, _+_, _≤_, _<_}
 use mathlib.Core.Path.{_≡_, refl, sym, ap}
@@ -8,20 +9,21 @@ use mathlib.Core.Bool.{cond}
 use native.Mathlib.Omega.{arith}
 use lib.Dec.{eqb}
 use borrow.Author.Tests.{eqb-true, eq-eqb, ne-eqb}
-use Rattle.laws.specs.Words.{sumBelow}
+use Rattle.laws.specs.Words.{sumBelow, greatest}
 use Rattle.laws.proofs.Tests.{by-test, by-order, by-equal, by-last}
 use Rattle.laws.proofs.Sums.{sum-mono, sum-zero, sum-bump}
 use Rattle.laws.proofs.Greatest.{greatest-above}
 use Rattle.theory.specs.Table.{Table}
-use Rattle.theory.specs.Interference.{chains}
 use Rattle.theory.specs.Bounds.{demand}
 use Rattle.theory.proofs.Rules.{demand-more, demand-one}
 
 unfoldable pub chainSum : Table → (ℕ → ℕ) → ℕ → ℕ → ℕ
 chainSum t x c n = sumBelow n (λ u. cond (eqb (t .chain u) c) (x u) 0)
 
+abbrev pub chains : Table → ℕ
+chains t = greatest (t .count) (t .chain)
+
 pub chain-most : (t : Table) (u : ℕ) → u < t .count → t .chain u < suc (chains t)
-unfolding chains
 chain-most t u l = omega (arith, greatest-above (t .count) (t .chain) u l)
 
 module _ (t : Table) (x : ℕ → ℕ) where

@@ -13,11 +13,11 @@ use Rattle.laws.specs.Words.{sumBelow}
 use Rattle.laws.proofs.Tests.{by-order, by-last, never-true, cond-le, cond-one}
 use Rattle.laws.proofs.Sums.{sum-eq, sum-two, sum-skip}
 use Rattle.theory.specs.Table.{Table}
-use Rattle.theory.specs.Bounds.{boundAt, ertRule, demand, lowest, counted, pairBound, largestPair}
+use Rattle.theory.specs.Bounds.{boundAt, ertRule, demand, lowest, pairBound, largestPair}
 use Rattle.theory.specs.Rounds.{overlap, after, itr}
 use Rattle.theory.specs.Claims.{Repeats}
 use Rattle.theory.proofs.WellFormed.{Ordered, WellFormed, chain-between}
-use Rattle.theory.proofs.Rules.{ert-next, ert-own, demand-one, demand-more, demand-own, pairs-least, pair-below, at-start, at-round, length-after}
+use Rattle.theory.proofs.Rules.{counted, ert-next, ert-own, demand-one, demand-more, demand-own, pairs-least, pair-below, at-start, at-round, length-after}
 use Rattle.theory.proofs.Interference.{interference-none}
 use Rattle.theory.proofs.Overlaps.{overlap-left, overlap-right, overlap-by}
 use Rattle.theory.proofs.Monotone.{Fewer, pairs-mono, overlap-mono, rounds-grow}
@@ -66,7 +66,7 @@ module _ (t : Table) (o : Ordered t) where
                 (t .chain x)
                 (lowest t k x)
                 (counted t (overlap t (after t n)) k x)
-                (λ u ul ne. unfold counted in rw (never-true (overlap t (after t n) k x u) (none k u (omega arith) ul ne))),
+                (λ u ul ne. rw (never-true (overlap t (after t n) k x u) (none k u (omega arith) ul ne))),
           )
 
 module _ (t : Table) (well : WellFormed t) where

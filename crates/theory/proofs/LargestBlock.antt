@@ -8,7 +8,7 @@ use mathlib.Core.Path.{_≡_, refl, sym, ap, _∙_}
 use mathlib.Core.Logic.{_≢_}
 use native.Mathlib.Omega.{arith}
 use native.Mathlib.Nat.{add-zero, add-suc}
-use Rattle.laws.specs.Words.{sumBelow}
+use Rattle.laws.specs.Words.{sumBelow, greatest}
 use Rattle.laws.proofs.Tests.{by-order, by-equal, by-last}
 use Rattle.theory.specs.Table.{Table}
 use Rattle.theory.specs.Interference.{openBlock, largestBlock}
@@ -127,7 +127,7 @@ module _ (t : Table) (c target : ℕ) (w : ℕ → ℕ) where
         none l = omega arith
 
     pub block-attained : (n : ℕ) → n ≤ t .count → Attains t c target w n (largestBlock t c target w n)
-    block-attained zero l = record { from = 0; size = 0; inside = omega arith; run = no-run 0; sums = no-sum 0 ∙ unfold largestBlock in refl }
+    block-attained zero l = record { from = 0; size = 0; inside = omega arith; run = no-run 0; sums = no-sum 0 ∙ unfold largestBlock greatest in refl }
     block-attained (suc u) l =
         let step = largest-step t c target w u in
         by-order (openBlock t c target w (suc u)) (largestBlock t c target w u)

@@ -10,7 +10,7 @@ use Rattle.laws.proofs.Tabulate.{tabulate-ext}
 use Rattle.jobs.specs.Limits.{maxJobs}
 use Rattle.theory.specs.Table.{Table}
 use Rattle.theory.specs.Interference.{interference}
-use Rattle.theory.specs.Bounds.{interferenceAt, largestPair, cjaWith, always, cja, boundLimit}
+use Rattle.theory.specs.Bounds.{interferenceAt, largestPair, cjaWith, cja, boundLimit}
 use Rattle.theory.specs.Rounds.{overlap, round}
 use Rattle.theory.proofs.Interference.{interference-same}
 use Rattle.theory.proofs.Overlaps.{overlap-by}
@@ -18,6 +18,7 @@ use Rattle.theory.proofs.Monotone.{pairs-mono}
 use Rattle.theory.proofs.Columns.{lent, Fit}
 use Rattle.theory.proofs.Weights.{weightOf, spanned}
 use Rattle.theory.proofs.Unread.{interference-unread}
+use Rattle.theory.proofs.Rules.{always}
 
 abbrev pub late : List ℕ
 late = replicate maxJobs boundLimit

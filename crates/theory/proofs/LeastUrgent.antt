@@ -7,14 +7,14 @@ use native.Mathlib.Omega.{arith}
 use lib.Dec.{eqb}
 use Rattle.laws.proofs.Tests.{by-test, by-order}
 use Rattle.theory.specs.Table.{Table}
-use Rattle.theory.specs.Interference.{chains, interference}
-use Rattle.theory.specs.Bounds.{boundAt, interferenceAt, ert, lowest, counted, pairBound, largestPair, always, cja}
+use Rattle.theory.specs.Interference.{interference}
+use Rattle.theory.specs.Bounds.{boundAt, interferenceAt, ert, lowest, pairBound, largestPair, cja}
 use Rattle.theory.specs.Rounds.{overlap, after}
 use Rattle.theory.specs.Parts.{Left, Part, LessUrgent}
 use Rattle.theory.specs.Claims.{Compared}
 use Rattle.theory.proofs.WellFormed.{Ordered}
-use Rattle.theory.proofs.Rules.{lowest-above, ert-mono, pairs-least, pair-below, at-cja, at-ert, at-round}
-use Rattle.theory.proofs.Chains.{chain-most}
+use Rattle.theory.proofs.Rules.{counted, always, lowest-above, ert-mono, pairs-least, pair-below, at-cja, at-ert, at-round}
+use Rattle.theory.proofs.Chains.{chains, chain-most}
 use Rattle.theory.proofs.Blocks.{block-none}
 use Rattle.theory.proofs.Overlaps.{overlap-carry}
 use Rattle.theory.proofs.Monotone.{pairs-mono}

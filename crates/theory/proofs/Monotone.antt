@@ -12,11 +12,11 @@ use native.Mathlib.Nat.{min-eq-left, min-eq-right}
 use Rattle.laws.proofs.Tests.{by-order, by-equal, by-last, cond-le}
 use Rattle.theory.specs.Table.{Table}
 use Rattle.theory.specs.Interference.{interference}
-use Rattle.theory.specs.Bounds.{ertRule, interferenceAt, ert, demand, lowest, counted, pairBound, largestPair, cjaWith, always, cja}
+use Rattle.theory.specs.Bounds.{ertRule, interferenceAt, ert, demand, lowest, pairBound, largestPair, cjaWith, cja}
 use Rattle.theory.specs.Rounds.{overlap, round, after}
 use Rattle.theory.specs.Claims.{AtMost}
 use Rattle.theory.proofs.WellFormed.{Ordered, chain-between}
-use Rattle.theory.proofs.Rules.{first-zero, first-after, ert-first, ert-next, ert-own, demand-one, demand-more, lowest-one, lowest-more, pairs-least, pair-below, at-cja, at-ert, at-start}
+use Rattle.theory.proofs.Rules.{counted, always, first-zero, first-after, ert-first, ert-next, ert-own, demand-one, demand-more, lowest-one, lowest-more, pairs-least, pair-below, at-cja, at-ert, at-start}
 use Rattle.theory.proofs.Interference.{interference-mono}
 use Rattle.theory.proofs.Overlaps.{overlap-carry}
 
@@ -27,7 +27,7 @@ module _ (t : Table) where
   module _ (keep more : ℕ → ℕ → ℕ → Bool) where
     pub pair-mono : (k j : ℕ) → ((u : ℕ) → u < t .count → t .chain u ≢ t .chain j → keep k j u ≡ true → more k j u ≡ true)
         → pairBound t keep k j ≤ pairBound t more k j
-    unfolding pairBound counted
+    unfolding pairBound
     pair-mono k j h =
         omega (
           arith,
@@ -110,7 +110,7 @@ module _ (t : Table) where
 module _ (t : Table) (o : Ordered t) where
   -- the interference of a pair is that of the last job, or that of the pair without it
   pair-le-ert : (k j : ℕ) → k ≤ j → j < t .count → t .chain k ≡ t .chain j → pairBound t always k j ≤ ertRule t (interferenceAt t) j
-  unfolding pairBound interferenceAt counted
+  unfolding pairBound interferenceAt
   pair-le-ert k zero kj jl c =
       let e : k ≡ 0 = omega arith in
       rw (e, lowest-one t 0) (omega (arith, demand-one t 0, ert-own t (interferenceAt t) 0))

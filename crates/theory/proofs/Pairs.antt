@@ -11,12 +11,13 @@ use native.Mathlib.Omega.{arith}
 use lib.Dec.{leb, eqb}
 use lib.ListN.{getD}
 use borrow.Author.Tests.{le-leb, lt-leb, eq-eqb}
+use Rattle.laws.specs.Words.{greatest}
 use Rattle.laws.proofs.Tests.{by-test, by-last}
 use Rattle.laws.proofs.Sums.{sum-const}
 use Rattle.jobs.specs.Limits.{maxTime}
 use Rattle.theory.specs.Table.{Table}
 use Rattle.theory.specs.Interference.{interference}
-use Rattle.theory.specs.Bounds.{demand, lowest, counted, pairBound, largestPair}
+use Rattle.theory.specs.Bounds.{demand, lowest, pairBound, largestPair}
 use Rattle.theory.specs.Rounds.{overlap}
 use Rattle.theory.proofs.WellFormed.{Ordered, chain-between}
 use Rattle.theory.proofs.Rules.{demand-one, demand-front, lowest-one, lowest-front, pairs-least}
@@ -76,8 +77,8 @@ module _ (t : Table) (j : ℕ) where
     pub walked-none : Walked t keep m j (suc j) 0 (t .urgency j) 0
     walked-none = record { inside = omega arith; sum-is = sym demand-out; low-is = sym lowest-out; best-is = omega arith; small = omega arith }
 
-    pair-step : (p : ℕ) → t .chain p ≡ t .chain j → largestPair t keep j (suc p) ≡ max (pairBound t keep p j) (largestPair t keep j p)
-    unfolding largestPair
+    pair-step : (p : ℕ) → t .chain p ≡ t .chain j → largestPair t keep j (suc p) ≡ max (largestPair t keep j p) (pairBound t keep p j)
+    unfolding largestPair greatest
     pair-step p e = rw (eq-eqb (t .chain p) (t .chain j) e)
 
     module _ {k p sum low best : ℕ} (h : Walked t keep m j k sum low best) (e : k ≡ suc p) where
@@ -109,7 +110,7 @@ module _ (t : Table) (j : ℕ) where
           )
 
     pub walked-all : {sum low best : ℕ} (k : ℕ) → k ≡ 0 → Walked t keep m j k sum low best → best ≡ largestPair t keep j (suc j)
-    unfolding largestPair
+    unfolding largestPair greatest
     walked-all k e h = omega (arith, h .best-is, ap (largestPair t keep j) e, none)
       where
         none : largestPair t keep j 0 ≡ 0
@@ -133,7 +134,7 @@ module _ (count : ℕ) (chain urgency most earliest latest bound : List ℕ) whe
   pub pair-is : (k j sum low delay : ℕ) → k ≤ j → sum ≡ demandFrom t k j → low ≡ lowestFrom t k j
       → delay ≡ interference (lent count chain urgency most earliest earliest) (getD chain j 0) low (spanned most earliest bound (getD earliest k 0) (getD bound j 0))
       → getD latest k 0 + sum + delay ≡ pairBound t (overlap t bound) k j
-  unfolding pairBound counted overlap weightOf
+  unfolding pairBound overlap weightOf
   pair-is k j sum low delay l es el ed =
       rw (es, ed, el, demand-in t j k l, lowest-in t j k l)
       (ap (λ (d : ℕ). getD latest k 0 + demand t k j + d)

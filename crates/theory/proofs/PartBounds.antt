@@ -13,14 +13,14 @@ use Rattle.laws.proofs.Tests.{by-test}
 use Rattle.laws.proofs.Sums.{sum-ext}
 use Rattle.laws.proofs.Greatest.{attained}
 use Rattle.theory.specs.Table.{Table}
-use Rattle.theory.specs.Interference.{largestBlock, chains, interference}
-use Rattle.theory.specs.Bounds.{boundAt, interferenceAt, ert, lowest, counted, pairBound, largestPair, always, cja}
+use Rattle.theory.specs.Interference.{largestBlock, interference}
+use Rattle.theory.specs.Bounds.{boundAt, interferenceAt, ert, lowest, pairBound, largestPair, cja}
 use Rattle.theory.specs.Rounds.{overlap, after}
 use Rattle.theory.specs.Parts.{Part}
 use Rattle.theory.specs.Claims.{Compared}
 use Rattle.theory.proofs.WellFormed.{Ordered}
-use Rattle.theory.proofs.Rules.{ert-mono, pairs-least, pair-below, at-cja, at-ert, at-start, at-round}
-use Rattle.theory.proofs.Chains.{chain-most}
+use Rattle.theory.proofs.Rules.{counted, always, ert-mono, pairs-least, pair-below, at-cja, at-ert, at-start, at-round}
+use Rattle.theory.proofs.Chains.{chains, chain-most}
 use Rattle.theory.proofs.Interference.{interference-same}
 use Rattle.theory.proofs.Overlaps.{overlap-carry}
 use Rattle.theory.proofs.Monotone.{pairs-mono}
@@ -52,7 +52,6 @@ module _ {part t : Table} {place number : ℕ → ℕ} (h : Part part t place nu
       (largest-same h o x target w)))
 
   pub chains-below : 0 < part .count → (x : ℕ) → x < suc (chains part) → number x < suc (chains t)
-  unfolding chains
   chains-below some x l =
       let a = attained (part .count) (part .chain) some in
       omega (
@@ -76,7 +75,6 @@ module _ {part t : Table} {place number : ℕ → ℕ} (h : Part part t place nu
   -- ---- pairs
   counted-part : (keep : ℕ → ℕ → ℕ → Bool) (k j own target : ℕ)
       → interference part own target (counted part (pulled place keep) k j) ≡ interference part own target (λ i. counted t keep (place k) (place j) (place i))
-  unfolding counted
   counted-part keep k j own target =
       interference-same
       part

@@ -5,6 +5,7 @@ use Prim.Native.Nat.{ℕ, zero, suc, _≤_, _<_}
 use mathlib.Core.Path.{_≡_, refl, sym, ap, _∙_}
 use mathlib.Core.Logic.{_≢_}
 use native.Mathlib.Omega.{arith}
+use Rattle.laws.specs.Words.{greatest}
 use Rattle.laws.proofs.Tests.{by-order, by-equal, by-last}
 use Rattle.theory.specs.Table.{Table}
 use Rattle.theory.specs.Interference.{openBlock, largestBlock}
@@ -181,7 +182,7 @@ module _ {part t : Table} {place number : ℕ → ℕ} (h : Part part t place nu
 
     same-blocks : (m n : ℕ) → m ≤ part .count → n ≤ t .count → ((i : ℕ) → i < m → place i < n) → ((i : ℕ) → m ≤ i → i < part .count → n ≤ place i)
         → SameBlocks m n
-    same-blocks zero zero ml nl lo hi = record { opens = unfold openBlock in refl; largest = unfold largestBlock in refl }
+    same-blocks zero zero ml nl lo hi = record { opens = unfold openBlock in refl; largest = unfold largestBlock greatest in refl }
     same-blocks (suc m) zero ml nl lo hi = absurd (omega (arith, lo m (omega arith)))
     same-blocks zero (suc u) ml nl lo hi =
         same-left 0 u nl

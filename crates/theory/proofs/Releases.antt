@@ -6,11 +6,14 @@ use native.Mathlib.Omega.{arith}
 use borrow.Author.Tests.{eq-eqb, ne-eqb}
 use Rattle.laws.proofs.Tests.{by-equal}
 use Rattle.jobs.specs.declared.job.Job.{Job}
-use Rattle.theory.specs.Table.{Table, joined, effectiveEarliest, effectiveLatest, effective, tableOf}
+use Rattle.theory.specs.Table.{Table, joined, effectiveEarliest, effective, tableOf}
 use Rattle.theory.specs.Parts.{Part}
 use Rattle.theory.proofs.WellFormed.{Ordered}
 use Rattle.theory.proofs.Rules.{First, first-zero, first-after}
 use Rattle.theory.proofs.Parts.{walk}
+
+abbrev effectiveLatest : Table → ℕ → ℕ
+effectiveLatest t i = max (t .latest i) (effectiveEarliest t i)
 
 module _ (t : Table) where
   pub release-first : (i : ℕ) → First t i → effectiveEarliest t i ≡ t .earliest i
@@ -30,16 +33,12 @@ module _ (t : Table) where
       (λ e. omega (arith, release-next i e))
       (λ ne. omega (arith, release-first (suc i) (first-after t i ne)))
 
-  larger : (i : ℕ) → effectiveLatest t i ≡ max (t .latest i) (effectiveEarliest t i)
-  unfolding effectiveLatest
-  larger i = refl
-
   pub release-range : (i : ℕ) → effectiveEarliest t i ≤ effectiveLatest t i
-  release-range i = omega (arith, larger i)
+  release-range i = omega arith
 
   -- where one release is given, one is effective
   pub release-one : (i : ℕ) → t .latest i ≤ t .earliest i → effectiveEarliest t i ≡ effectiveLatest t i
-  release-one i l = omega (arith, larger i, release-own i)
+  release-one i l = omega (arith, release-own i)
 
   module _ (R M : ℕ) (hr : (u : ℕ) → u < t .count → t .earliest u ≤ R) (hm : (u : ℕ) → u < t .count → t .least u ≤ M) where
     pub release-limit : (i : ℕ) → i < t .count → effectiveEarliest t i ≤ R + i * M
@@ -66,7 +65,6 @@ module _ {part t : Table} {place number : ℕ → ℕ} (h : Part part t place nu
       omega (arith, ap (effectiveEarliest t) n, release-next t (place i) c, release-next part i e, h .least i (omega arith)))
 
   latest-same : (i : ℕ) → i < part .count → effectiveLatest t (place i) ≡ effectiveLatest part i
-  unfolding effectiveLatest
   latest-same i l = omega (arith, earliest-same i l, h .latest i l)
 
   pub effective-part : Part (effective part) (effective t) place number

@@ -1,15 +1,18 @@
 -- The rules of the bounds, step by step: the ERT rule, demand and lowest urgency of the jobs from k to j, the largest pair, and the bound at a place.
---   First   the job at a place has no predecessor
+--   First     the job at a place has no predecessor
+--   always    the choice that leaves no job out
+--   counted   what a job counts in a pair
 -- Assumes nothing.
 use Prim.Native.Nat.{ℕ, zero, suc, _+_, _≤_, _<_, max, min}
 use mathlib.Core.Path.{_≡_, refl, ap, _∙_}
 use mathlib.Core.Logic.{_≢_}
-use mathlib.Core.Bool.{Bool}
+use mathlib.Core.Bool.{Bool, true, cond}
 use native.Mathlib.Omega.{arith}
 use native.Mathlib.Nat.{zero-add}
 use lib.Dec.{eqb}
 use lib.ListN.{length}
 use borrow.Author.Tests.{eqb-true, le-leb, lt-leb, eq-eqb, ne-eqb}
+use Rattle.laws.specs.Words.{greatest}
 use Rattle.laws.proofs.Tests.{by-test, by-last}
 use Rattle.laws.proofs.Tabulate.{length-tabulate, getD-tabulate}
 use Rattle.theory.specs.Table.{Table, joined}
@@ -19,6 +22,12 @@ use Rattle.theory.specs.Rounds.{itrStart, overlap, round, after}
 -- the job at v has no predecessor
 abbrev pub First : Table → ℕ → Type 0
 First t v = (w : ℕ) → v ≡ suc w → t .chain w ≢ t .chain v
+
+abbrev pub always : ℕ → ℕ → ℕ → Bool
+always k j u = true
+
+abbrev pub counted : Table → (ℕ → ℕ → ℕ → Bool) → ℕ → ℕ → ℕ → ℕ
+counted t keep k j u = cond (keep k j u) (t .most u) 0
 
 module _ (t : Table) where
   pub first-zero : First t 0
@@ -115,7 +124,7 @@ module _ (t : Table) where
   module _ (keep : ℕ → ℕ → ℕ → Bool) where
     -- what each pair is at most, the largest is at most
     pub pairs-least : (j m n : ℕ) → ((k : ℕ) → k < n → t .chain k ≡ t .chain j → pairBound t keep k j ≤ m) → largestPair t keep j n ≤ m
-    unfolding largestPair
+    unfolding largestPair greatest
     pairs-least j m zero h = omega arith
     pairs-least j m (suc k) h =
         let rest : largestPair t keep j k ≤ m = pairs-least j m k (λ i l. h i (omega arith)) in
@@ -124,7 +133,7 @@ module _ (t : Table) where
         (λ e. rw e (omega arith))
 
     pub pair-below : (k j n : ℕ) → k < n → t .chain k ≡ t .chain j → pairBound t keep k j ≤ largestPair t keep j n
-    unfolding largestPair
+    unfolding largestPair greatest
     pair-below k j zero l e = absurd (omega arith)
     pair-below k j (suc n) l e =
         by-last k n l

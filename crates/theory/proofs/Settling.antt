@@ -10,7 +10,8 @@ use lib.Dec.{eqb}
 use lib.Seq.{ext-getD}
 use borrow.Author.Tests.{eqb-true, eqb-false, eq-eqb, ne-eqb}
 use Rattle.laws.specs.Words.{sumBelow}
-use Rattle.laws.proofs.Tests.{by-test, by-order, by-equal, by-last, both-ways, and-left, and-right, and-both, cond-le, cond-one}
+use Rattle.laws.proofs.Tests.{by-test, by-order, by-equal, by-last, both-ways, cond-le, cond-one}
+use Rattle.laws.proofs.Every.{every-at, every-all}
 use Rattle.laws.proofs.Sums.{sum-mono, sum-eq, sum-const, sum-skip}
 use Rattle.laws.proofs.Tabulate.{tabulate-ext}
 use Rattle.theory.specs.Table.{Table}
@@ -23,16 +24,11 @@ use Rattle.theory.proofs.Monotone.{Fewer, pairs-mono, overlap-mono, rou
 -- ---- the same bounds
 pub same-at : (n : ℕ) (a b : List ℕ) → sameBounds n a b ≡ true → (i : ℕ) → i < n → boundAt a i ≡ boundAt b i
 unfolding sameBounds
-same-at zero a b e i l = absurd (omega arith)
-same-at (suc n) a b e i l =
-    by-last i n l
-    (λ q. rw q (eqb-true (boundAt a n) (boundAt b n) (and-right (sameBounds n a b) (eqb (boundAt a n) (boundAt b n)) e)))
-    (λ il. same-at n a b (and-left (sameBounds n a b) (eqb (boundAt a n) (boundAt b n)) e) i il)
+same-at n a b e i l = eqb-true _ _ (every-at _ n i l e)
 
 pub same-refl : (n : ℕ) (a : List ℕ) → sameBounds n a a ≡ true
 unfolding sameBounds
-same-refl zero a = refl
-same-refl (suc n) a = and-both (sameBounds n a a) (eqb (boundAt a n) (boundAt a n)) (same-refl n a) (eq-eqb (boundAt a n) (boundAt a n) refl)
+same-refl n a = every-all _ n (λ i l. eq-eqb (boundAt a i) (boundAt a i) refl)
 
 -- two choices that keep the same jobs give the same round
 pub round-by : (t : Table) (a b : List ℕ) → Fewer t (overlap t a) (overlap t b) → Fewer t (overlap t b) (overlap t a) → round t a ≡ round t b

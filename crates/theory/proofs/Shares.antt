@@ -11,13 +11,13 @@ use native.Mathlib.Omega.{arith}
 use native.Mathlib.Nat.{zero-add, add-mul}
 use lib.Dec.{eqb}
 use borrow.Author.Tests.{eq-eqb, ne-eqb}
-use Rattle.laws.specs.Words.{sumBelow}
+use Rattle.laws.specs.Words.{sumBelow, greatest}
 use Rattle.laws.proofs.Tests.{by-test, by-equal}
 use Rattle.laws.proofs.Sums.{sum-zero, sum-bump}
 use Rattle.theory.specs.Table.{Table}
-use Rattle.theory.specs.Interference.{largestBlock, chains, interference}
+use Rattle.theory.specs.Interference.{largestBlock, interference}
 use Rattle.theory.proofs.WellFormed.{Ordered, chain-le}
-use Rattle.theory.proofs.Chains.{chain-most}
+use Rattle.theory.proofs.Chains.{chains, chain-most}
 use Rattle.theory.proofs.Blocks.{largest-rest}
 use Rattle.theory.proofs.Stretches.{largestOver, largest-small, largest-over}
 use Rattle.theory.proofs.Endings.{First, EndsAt}
@@ -60,7 +60,7 @@ module _ (t : Table) (own target : ℕ) (w : ℕ → ℕ) where
 
   module _ (m : ℕ) where
     pub shared-none : Shared t own target w m 0 0
-    unfolding sharesOf largestBlock
+    unfolding sharesOf largestBlock greatest
     shared-none =
         record {
           inside = omega arith;
@@ -72,7 +72,7 @@ module _ (t : Table) (own target : ℕ) (w : ℕ → ℕ) where
     module _ (o : Ordered t) (i e : ℕ) (l : i < t .count) (ends : EndsAt (t .count) (t .chain) i e) (total : ℕ) (h : Shared t own target w m i total) where
       -- the chain that begins at i has no block before
       no-block : largestBlock t (t .chain i) target w i ≡ 0
-      unfolding largestBlock
+      unfolding largestBlock greatest
       no-block =
           subst (λ (n : ℕ). largestBlock t (t .chain i) target w n ≡ 0) (zero-add i)
           (largest-rest t (t .chain i) target w 0 i (λ v a b. h .first l v (omega arith)))

@@ -12,12 +12,12 @@ use Rattle.laws.specs.Words.{sumBelow}
 use Rattle.laws.proofs.Tests.{by-order, by-equal}
 use Rattle.theory.specs.Table.{Table}
 use Rattle.theory.specs.Interference.{largestBlock, interference}
-use Rattle.theory.specs.Bounds.{boundAt, demand, lowest, counted, pairBound, cja, ert}
+use Rattle.theory.specs.Bounds.{boundAt, demand, lowest, pairBound, cja, ert}
 use Rattle.theory.specs.Rounds.{overlap, round, itr}
 use Rattle.theory.specs.Runs.{Entry, work, timeAt, Complete, PredecessorComplete, Run}
 use Rattle.theory.specs.Claims.{AtMost, Holds}
 use Rattle.theory.proofs.WellFormed.{WellFormed, chain-between}
-use Rattle.theory.proofs.Rules.{pair-below, at-cja}
+use Rattle.theory.proofs.Rules.{counted, pair-below, at-cja}
 use Rattle.theory.proofs.Chains.{chainSum, chain-most, own-and-others, own-sum}
 use Rattle.theory.proofs.Blocks.{block-holds}
 use Rattle.theory.proofs.Overlaps.{overlap-by}
@@ -117,7 +117,6 @@ module _ {t : Table} (well : WellFormed t) {release : ℕ → ℕ} {times : List
           (omega (arith, is .releases .early u ul, h .ready .released, h .before))
 
       weighs : (u : ℕ) → u < t .count → RanIn u → workIn run start bound u ≤ weight u
-      unfolding counted
       weighs u ul h = rw (overlaps u ul h) (work-in-most u ul)
 
       other-part : (c : ℕ) → chainSum t (workIn run start bound) c (t .count) ≤ largestBlock t c target weight (t .count)

@@ -9,11 +9,12 @@ use mathlib.Core.List.{List}
 use lib.Dec.{eqb}
 use Rattle.laws.specs.Words.{sumBelow, tabulate, greatest}
 use Rattle.theory.specs.Table.{Table, joined}
-use Rattle.theory.specs.Interference.{openBlock, largestBlock, chains, interference}
-use Rattle.theory.specs.Bounds.{ertRule, interferenceAt, ert, demand, lowest, counted, pairBound, largestPair, cjaWith, always, cja}
+use Rattle.theory.specs.Interference.{openBlock, largestBlock, interference}
+use Rattle.theory.specs.Bounds.{ertRule, interferenceAt, ert, demand, lowest, pairBound, largestPair, cjaWith, cja}
 use Rattle.theory.specs.Rounds.{itrStart, overlap, round, after, itr}
 use Rattle.theory.specs.Claims.{Repeats}
 use Rattle.theory.proofs.Settling.{itr-settled, settled-unique}
+use Rattle.theory.proofs.Rules.{always}
 
 -- two tables of the same count, chains and urgencies
 module _ (n : ℕ) (chain urgency : ℕ → ℕ) (least most earliest latest least' most' earliest' latest' : ℕ → ℕ) where
@@ -29,12 +30,12 @@ module _ (n : ℕ) (chain urgency : ℕ → ℕ) (least most earliest latest lea
   open-unread c target w (suc u) = rw (open-unread c target w u)
 
   largest-unread : (c target : ℕ) (w : ℕ → ℕ) (u : ℕ) → largestBlock s c target w u ≡ largestBlock t c target w u
-  unfolding largestBlock
+  unfolding largestBlock greatest
   largest-unread c target w zero = refl
   largest-unread c target w (suc u) = rw (largest-unread c target w u, open-unread c target w (suc u))
 
   pub interference-unread : (own target : ℕ) (w : ℕ → ℕ) → interference s own target w ≡ interference t own target w
-  unfolding interference chains
+  unfolding interference
   interference-unread own target w =
       ap (λ (f : ℕ → ℕ). sumBelow (suc (greatest n chain)) f)
       (fun-ext (λ c. ap (λ (b : ℕ). cond (eqb c own) 0 b) (largest-unread c target w n)))
@@ -72,11 +73,11 @@ module _ (t : Table) where
   lowest-bare k (suc j) = rw (lowest-bare k j)
 
   pair-bare : (keep : ℕ → ℕ → ℕ → Bool) (k j : ℕ) → pairBound (bare t) keep k j ≡ pairBound t keep k j
-  unfolding pairBound counted
+  unfolding pairBound
   pair-bare keep k j = rw (demand-bare k j, lowest-bare k j, interference-bare (t .chain j) (lowest t k j) (λ u. cond (keep k j u) (t .most u) 0))
 
   largest-bare : (keep : ℕ → ℕ → ℕ → Bool) (j n : ℕ) → largestPair (bare t) keep j n ≡ largestPair t keep j n
-  unfolding largestPair
+  unfolding largestPair greatest
   largest-bare keep j zero = refl
   largest-bare keep j (suc k) = rw (largest-bare keep j k, pair-bare keep k j)
 

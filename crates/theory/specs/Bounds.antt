@@ -1,5 +1,5 @@
 -- The bounds ERT and CJA, each a list with one bound for each job, in table order. Document 01, "Bounds". Assumes nothing.
-use Rattle.laws.specs.Words.{ℕ, zero, suc, _+_, max, min, Bool, true, cond, List, leb, eqb, getD, tabulate}
+use Rattle.laws.specs.Words.{ℕ, zero, suc, _+_, max, min, Bool, true, cond, List, leb, eqb, getD, greatest, tabulate}
 use Rattle.theory.specs.{Table.Table, Table.joined, Interference.interference}
 
 -- The bound at a place, 0 beyond the list.
@@ -31,32 +31,22 @@ unfoldable pub lowest : Table → ℕ → ℕ → ℕ
 lowest t k zero = t .urgency 0
 lowest t k (suc j) = cond (leb k j) (min (lowest t k j) (t .urgency (suc j))) (t .urgency (suc j))
 
--- What a job u of another chain counts in the pair (k, j): its most time, or 0 where `keep` leaves it out.
-unfoldable pub counted : Table → (ℕ → ℕ → ℕ → Bool) → ℕ → ℕ → ℕ → ℕ
-counted t keep k j u = cond (keep k j u) (t .most u) 0
-
--- The sum for the pair (k, j): release of k + the most times from k to j + interference at the lowest urgency from k to j.
+-- The sum for the pair (k, j): release of k + the most times from k to j + interference at the lowest urgency from k to j, where a job u of another
+-- chain counts its most time, or 0 if `keep` leaves it out.
 unfoldable pub pairBound : Table → (ℕ → ℕ → ℕ → Bool) → ℕ → ℕ → ℕ
-pairBound t keep k j = t .latest k + demand t k j + interference t (t .chain j) (lowest t k j) (counted t keep k j)
+pairBound t keep k j = t .latest k + demand t k j + interference t (t .chain j) (lowest t k j) (λ u. cond (keep k j u) (t .most u) 0)
 
 -- The largest such sum over the places k below n that are of j's chain.
 unfoldable pub largestPair : Table → (ℕ → ℕ → ℕ → Bool) → ℕ → ℕ → ℕ
-largestPair t keep j zero = 0
-largestPair t keep j (suc k) =
-    let rest = largestPair t keep j k in
-    max (cond (eqb (t .chain k) (t .chain j)) (pairBound t keep k j) 0) rest
+largestPair t keep j n = greatest n (λ k. cond (eqb (t .chain k) (t .chain j)) (pairBound t keep k j) 0)
 
 -- CJA with any choice of jobs that count: for each j the largest sum over the jobs of its chain up to j.
 unfoldable pub cjaWith : Table → (ℕ → ℕ → ℕ → Bool) → List ℕ
 cjaWith t keep = tabulate 0 (t .count) (λ j. largestPair t keep j (suc j))
 
--- The choice that leaves no job out.
-abbrev pub always : ℕ → ℕ → ℕ → Bool
-always k j u = true
-
--- The CJA bounds.
+-- The CJA bounds: every job counts.
 unfoldable pub cja : Table → List ℕ
-cja t = cjaWith t always
+cja t = cjaWith t (λ k j u. true)
 
 -- All bounds of an accepted set are below this.
 abbrev pub boundLimit : ℕ

@@ -1,5 +1,5 @@
 -- ITR and its rounds. Document 01, "Bounds". Assumes nothing.
-use Rattle.laws.specs.Words.{ℕ, zero, suc, _+_, _*_, _-_, Bool, true, false, _&&_, List, ltb, eqb, tabulate}
+use Rattle.laws.specs.Words.{ℕ, zero, suc, _+_, _*_, _-_, Bool, true, false, _&&_, List, ltb, eqb, everyBelow, tabulate}
 use Rattle.theory.specs.{Table.Table, Bounds.boundAt, Bounds.ertRule, Bounds.cjaWith}
 
 -- The start of ITR: the ERT rule with interference 0.
@@ -21,8 +21,7 @@ after t (suc n) = round t (after t n)
 
 -- Whether two lists have the same bounds at the first n places.
 unfoldable pub sameBounds : ℕ → List ℕ → List ℕ → Bool
-sameBounds zero a b = true
-sameBounds (suc n) a b = sameBounds n a b && eqb (boundAt a n) (boundAt b n)
+sameBounds n a b = everyBelow n (λ i. eqb (boundAt a i) (boundAt b i))
 
 -- The answer of ITR: its bounds, and how many rounds there were.
 pub record Answer : Type 0 where

@@ -27,11 +27,8 @@ effectiveEarliest t (suc i) =
     let before = effectiveEarliest t i in
     cond (joined t i) (max (t .earliest (suc i)) (before + t .least i)) (t .earliest (suc i))
 
--- The larger of the given latest release and the effective earliest one: equal to that where a job is given one release.
-unfoldable pub effectiveLatest : Table → ℕ → ℕ
-effectiveLatest t i = max (t .latest i) (effectiveEarliest t i)
-
--- A table with its releases made effective.
+-- A table with its releases made effective: the latest is the given one or the effective earliest, whichever is larger, and so equal to the earliest
+-- where a job is given one release.
 abbrev pub effective : Table → Table
 effective t =
     record {
@@ -41,7 +38,7 @@ effective t =
       least = t .least;
       most = t .most;
       earliest = effectiveEarliest t;
-      latest = effectiveLatest t;
+      latest = λ i. max (t .latest i) (effectiveEarliest t i);
     }
 
 -- The latest release that a job is given: its only one.

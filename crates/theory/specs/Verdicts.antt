@@ -1,5 +1,5 @@
 -- Slack and verdict. Document 01, "Bounds", last paragraph. Assumes nothing.
-use Rattle.laws.specs.Words.{ℕ, zero, suc, Bool, true, _&&_, List, leb, ℤ, pos, _-ℤ_, length, tabulate}
+use Rattle.laws.specs.Words.{ℕ, Bool, List, leb, ℤ, pos, _-ℤ_, length, everyBelow, tabulate}
 use Rattle.jobs.specs.declared.job.Job.{Job}
 use Rattle.jobs.specs.Jobs.{jobAt}
 use Rattle.theory.specs.{Table.tableOf, Bounds.boundAt, Rounds.itr}
@@ -12,7 +12,6 @@ slack deadline bound = pos deadline -ℤ pos bound
 unfoldable pub slacks : List Job → List ℤ
 slacks js = tabulate 0 (length js) (λ i. slack (jobAt js i .deadline) (boundAt (itr (tableOf js) .bounds) i))
 
--- The verdict by a list of bounds: whether each of the first n is at or before its job's deadline.
-unfoldable pub meets : List Job → List ℕ → ℕ → Bool
-meets js bounds zero = true
-meets js bounds (suc n) = meets js bounds n && leb (boundAt bounds n) (jobAt js n .deadline)
+-- The verdict by a list of bounds: whether each is at or before its job's deadline.
+unfoldable pub meets : List Job → List ℕ → Bool
+meets js bounds = everyBelow (length js) (λ i. leb (boundAt bounds i) (jobAt js i .deadline))

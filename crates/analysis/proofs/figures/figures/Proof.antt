@@ -13,7 +13,7 @@ use Rattle.theory.specs.Table.{tableOf}
 use Rattle.theory.specs.Bounds.{ert, cja}
 use Rattle.analysis.specs.declared.answer.Itr.{Itr}
 use Rattle.analysis.specs.declared.answer.Figures.{Figures}
-use Rattle.analysis.specs.Answers.{figuresOf}
+use Rattle.analysis.specs.Answers.{ertOf, cjaOf, itrOf, slacksOf, figuresOf}
 use Rattle.analysis.proofs.figures.figures.Statement.{statement}
 use Rattle.analysis.proofs.figures.figures.Tie as tie
 
@@ -28,7 +28,7 @@ enum-known-refusal : tie.Need-enum-known-refusal
 enum-known-refusal c = search needs
 
 returns : tie.Need-returns
-unfolding figuresOf
+unfolding ertOf cjaOf itrOf slacksOf figuresOf
 returns c = rw (sym (c .before .before .before .check .ensures) ∙ c .before .refusal .given .1)
 
 enum-told : tie.Need-enum-told
@@ -51,7 +51,7 @@ gathered : List ℕ → List ℕ → Itr → List ℤ → Figures
 gathered ert cja answer slacks = record { check = Passed; ert = ert; cja = cja; itr = answer .bounds; rounds = answer .rounds; slacks = slacks }
 
 returns-2 : tie.Need-returns-2
-unfolding figuresOf gathered
+unfolding ertOf cjaOf itrOf slacksOf figuresOf gathered
 returns-2 c =
     rw (accepts (c .before .before .before .before .before))
     (ap₂ (λ (x y : List ℕ). gathered x y (c .before .before .before .before .accepted-itr .result) (c .before .before .slacks-by .result)) (c .before .accepted-ert .ensures) (c .accepted-cja .ensures)

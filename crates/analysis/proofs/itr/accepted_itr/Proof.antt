@@ -1,9 +1,8 @@
 -- `accepted_itr` answers the ITR bounds and rounds. Assumes nothing.
 use mathlib.Core.Path.{ap, _∙_}
 use borrow.Author.Needs.{needs}
-use Rattle.jobs.specs.declared.refusal.Check.the-variants.{Passed}
-use Rattle.analysis.specs.Answers.{itrWith}
 use Rattle.analysis.proofs.Lent.{lends}
+use Rattle.analysis.proofs.Rounding.{itrPassed}
 use Rattle.analysis.proofs.itr.accepted_itr.Statement.{statement}
 use Rattle.analysis.proofs.itr.accepted_itr.Tie as tie
 
@@ -21,7 +20,7 @@ returns c =
     let s = c .before .before .before .before .before .before .before .before .before in
     let made = c .before .before .before .before .before .before .before .before .columns-of in
     let held = lends (s .args .set) (s .pre) (made .result) (made .ensures .0) in
-    c .settle .ensures ∙ ap (itrWith Passed) (held .by-itr)
+    c .settle .ensures ∙ ap itrPassed (held .by-itr)
 
 pub accepted-itr-spec : {M : Type 1} → statement M
 accepted-itr-spec = tie.close (tie.spec columns-of-requires settle-requires returns)
