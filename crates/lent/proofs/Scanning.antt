@@ -18,7 +18,6 @@ use Rattle.machine.specs.declared.state.State.{State}
 use Rattle.lent.specs.declared.scan.Scan.{Scan}
 use Rattle.machine.specs.States.{predecessorComplete, ready}
 use Rattle.machine.specs.Pick.{pickUpTo, bestOf}
-use Rattle.machine.specs.Private.{considered}
 use Rattle.lent.specs.Scans.{scanOf}
 use Rattle.lent.specs.Private.{follows, releasedBy, sinceBy, readyBy, bestBy, lookedAt}
 use Rattle.machine.proofs.Picks.{considered-next}
@@ -124,7 +123,7 @@ module _ (js : List Job) (times : List ℕ) (s : State) where
 
   best-next : (u : ℕ) → readyBy (scanOf js times s u) (jobAt js u) u times s ≡ ready t times s u
       → bestBy (scanOf js times s u) (jobAt js u) u times s ≡ bestOf t (pickUpTo t times s (suc u))
-  unfolding bestBy considered
+  unfolding bestBy
   best-next u e = rw (e, best-is u, ← add-one u) (considered-next t times s (bestOf t (pickUpTo t times s u)) u refl)
 
   looked : (u : ℕ) → releasedBy (scanOf js times s u) (jobAt js u) u (s .time) ≡ leb (t .earliest u) (s .time)

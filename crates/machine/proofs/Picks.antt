@@ -14,12 +14,12 @@ use borrow.Author.Tests.{ltb-true, eqb-true, lt-ltb, le-ltb, eq-eqb}
 use Rattle.laws.proofs.Tests.{by-test, by-order, by-last, both-ways, and-left, and-right}
 use Rattle.theory.specs.Table.{Table}
 use Rattle.theory.specs.Runs.{Entry, idle, runs}
+use Rattle.theory.proofs.Columns.{Alike}
 use Rattle.machine.specs.declared.state.State.{State}
 use Rattle.machine.specs.declared.pick.Best.{Best}
 use Rattle.machine.specs.States.{ready}
 use Rattle.machine.specs.Pick.{outranks, goesFirst, preferred, pickUpTo, pick, bestOf, better}
-use Rattle.machine.specs.Private.{considered}
-use Rattle.machine.proofs.Readiness.{Alike, ready-alike}
+use Rattle.machine.proofs.Readiness.{ready-alike}
 
 -- ---- the relation
 -- what it takes to outrank
@@ -176,8 +176,8 @@ better-preferred t idle u = better-idle t u
 better-preferred t (runs v) u = better-runs t v u
 
 pub considered-next : (t : Table) (times : List ℕ) (s : State) (best : Best) (u : ℕ) → best ≡ bestOf t (pickUpTo t times s u)
-    → considered t times s best u ≡ bestOf t (pickUpTo t times s (u + 1))
-unfolding considered pickUpTo
+    → cond (ready t times s u) (better best u (t .urgency u) (t .chain u)) best ≡ bestOf t (pickUpTo t times s (u + 1))
+unfolding pickUpTo
 considered-next t times s best u e =
     rw (add-one, e) (by-test (ready t times s u) (λ r. rw r (better-preferred t (pickUpTo t times s u) u)) (λ r. rw r))
 

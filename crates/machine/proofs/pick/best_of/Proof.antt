@@ -3,8 +3,9 @@ use Prim.Native.Nat.{_≤_, _-_}
 use mathlib.Core.Path.{_≡_, refl, _∙_}
 use native.Mathlib.Omega.{arith}
 use borrow.Author.Needs.{needs}
+use Rattle.theory.proofs.Columns.{seen}
 use Rattle.machine.specs.Pick.{pickUpTo, bestOf}
-use Rattle.machine.specs.Private.{seen, stateOf}
+use Rattle.machine.proofs.Readiness.{stateOf}
 use Rattle.machine.proofs.Picks.{considered-next}
 use Rattle.machine.proofs.pick.best_of.Statement.{statement}
 use Rattle.machine.proofs.pick.best_of.Tie as tie
