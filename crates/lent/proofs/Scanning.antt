@@ -17,10 +17,10 @@ use Rattle.theory.proofs.Releases.{release-first, release-next}
 use Rattle.machine.specs.declared.state.State.{State}
 use Rattle.lent.specs.declared.scan.Scan.{Scan}
 use Rattle.machine.specs.States.{predecessorComplete, ready}
-use Rattle.machine.specs.Pick.{pickUpTo, bestOf}
+use Rattle.machine.specs.Pick.{bestUpTo}
 use Rattle.lent.specs.Scans.{scanOf}
 use Rattle.lent.specs.Private.{follows, releasedBy, sinceBy, readyBy, bestBy, lookedAt}
-use Rattle.machine.proofs.Picks.{considered-next}
+use Rattle.machine.proofs.Picks.{best-step}
 
 -- a released record
 module _ (scan : Scan) (j : Job) (u time : ℕ) (h : releasedBy scan j u time ≡ true) where
@@ -116,15 +116,15 @@ module _ (js : List Job) (times : List ℕ) (s : State) where
     unfolding readyBy ready predecessorComplete
     next-ready = rw (next-released, next-follows) (unfold scanOf in refl)
 
-  best-is : (u : ℕ) → scanOf js times s u .best ≡ bestOf t (pickUpTo t times s u)
+  best-is : (u : ℕ) → scanOf js times s u .best ≡ bestUpTo t times s u
   unfolding scanOf
-  best-is zero = unfold pickUpTo in refl
+  best-is zero = refl
   best-is (suc v) = refl
 
   best-next : (u : ℕ) → readyBy (scanOf js times s u) (jobAt js u) u times s ≡ ready t times s u
-      → bestBy (scanOf js times s u) (jobAt js u) u times s ≡ bestOf t (pickUpTo t times s (suc u))
+      → bestBy (scanOf js times s u) (jobAt js u) u times s ≡ bestUpTo t times s (suc u)
   unfolding bestBy
-  best-next u e = rw (e, best-is u, ← add-one u) (considered-next t times s (bestOf t (pickUpTo t times s u)) u refl)
+  best-next u e = rw (e, best-is u, ← add-one u) (best-step t times s (bestUpTo t times s u) u refl)
 
   looked : (u : ℕ) → releasedBy (scanOf js times s u) (jobAt js u) u (s .time) ≡ leb (t .earliest u) (s .time)
       → sinceBy (scanOf js times s u) (jobAt js u) u (s .time) ≡ s .time - t .earliest u

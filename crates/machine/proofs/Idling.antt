@@ -13,7 +13,7 @@ use Rattle.laws.proofs.Tests.{by-test, by-order, same-test}
 use Rattle.theory.specs.Table.{Table}
 use Rattle.theory.proofs.NextRelease.{nextRelease, next-after}
 use Rattle.machine.specs.States.{lastTime, complete, predecessorComplete, ready}
-use Rattle.machine.specs.Pick.{pickUpTo}
+use Rattle.machine.specs.Pick.{bestUpTo, pick}
 use Rattle.machine.proofs.Readiness.{stateOf}
 
 abbrev pub nextTime : Bool → (ℕ → ℕ) → ℕ → ℕ → ℕ
@@ -48,7 +48,11 @@ module _ (t : Table) (times work : List ℕ) (time b : ℕ) (apart : (u : ℕ) �
   unfolding ready
   ready-same u l = ap (λ (b : Bool). b && not (complete times work u) && predecessorComplete t times work u) (released-same u l)
 
-  pub pick-same : (n : ℕ) → n ≤ t .count → pickUpTo t times (stateOf s work) n ≡ pickUpTo t times (stateOf time work) n
-  unfolding pickUpTo
-  pick-same zero l = refl
-  pick-same (suc u) l = rw (ready-same u l, pick-same u (omega arith))
+  best-same : (n : ℕ) → n ≤ t .count → bestUpTo t times (stateOf s work) n ≡ bestUpTo t times (stateOf time work) n
+  unfolding bestUpTo
+  best-same zero l = refl
+  best-same (suc u) l = rw (ready-same u l, best-same u (omega arith))
+
+  pub pick-same : pick t times (stateOf s work) ≡ pick t times (stateOf time work)
+  unfolding pick
+  pick-same = rw (best-same (t .count) (omega arith))

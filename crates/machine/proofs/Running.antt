@@ -35,7 +35,7 @@ use Rattle.machine.specs.declared.pick.Best.{Best}
 use Rattle.machine.specs.declared.run.Completed.{Completed}
 use Rattle.machine.specs.States.{lastTime, allComplete}
 use Rattle.machine.specs.Times.{machineCheck}
-use Rattle.machine.specs.Pick.{pickUpTo, pick, bestOf}
+use Rattle.machine.specs.Pick.{bestUpTo, pick}
 use Rattle.machine.specs.Steps.{moved}
 use Rattle.machine.specs.Runs.{after, entry, completion, finish, completions, runOf}
 use Rattle.machine.proofs.Readiness.{stateOf}
@@ -173,8 +173,7 @@ module _ (js : List Job) (times : List ℕ) (passed : machineCheck js times ≡ 
   module _ {work : List ℕ} {left time : ℕ} (r : Reached js times work left time) (more : 0 < left) (q : pick t times (stateOf time work) ≡ idle) (b : ℕ)
       (apart : (u : ℕ) → u < length js → time < t .earliest u → b ≤ t .earliest u) where
     still : (d : ℕ) → time + d < b → pick t times (stateOf (time + d) work) ≡ idle
-    unfolding pick
-    still d l = pick-same t times work time b apart (time + d) (omega arith) l (length js) (omega arith) ∙ q
+    still d l = pick-same t times work time b apart (time + d) (omega arith) l ∙ q
 
     reached-on : (d : ℕ) → time + d ≤ b → Reached js times work left (time + d)
     reached-on zero l = rw (add-zero time) r
@@ -241,7 +240,7 @@ pub record Turn (set : JobSet) (columns : Columns) (times work : List ℕ) (left
   pub prepared : Prepared set columns times
   pub reached : Reached (jobsOf set) times work left time
   pub more : 0 < left
-  pub scanned : best ≡ bestOf (seen (columns .chain) (columns .urgency) (columns .release)) (pickUpTo (seen (columns .chain) (columns .urgency) (columns .release)) times (stateOf time work) (set .count))
+  pub scanned : best ≡ bestUpTo (seen (columns .chain) (columns .urgency) (columns .release)) times (stateOf time work) (set .count)
 
 module _ {set : JobSet} {columns : Columns} {times work : List ℕ} {left time : ℕ} {best : Best} (turn : Turn set columns times work left time best) where
   abbrev js : List Job

@@ -1,13 +1,13 @@
 -- One tick: what the scan over columns finds, and the three ways that a tick can go. Assumes nothing.
 use Prim.Native.Nat.{ℕ, _≤_, _<_}
-use mathlib.Core.Path.{_≡_, refl, sym, ap, subst, _∙_}
-use mathlib.Core.Bool.{Bool, true, false, _&&_}
+use mathlib.Core.Path.{_≡_, refl, sym, ap, _∙_}
+use mathlib.Core.Bool.{Bool, true, false, cond, _&&_}
 use mathlib.Core.List.{List, []}
 use native.Mathlib.Omega.{arith}
 use lib.Dec.{leb}
 use lib.ListN.{length, getD}
 use borrow.Author.Tests.{leb-true, lt-leb, le-leb}
-use Rattle.laws.proofs.Tests.{both-ways, and-left, and-right}
+use Rattle.laws.proofs.Tests.{and-left, and-right}
 use Rattle.jobs.specs.declared.job.Job.{Job}
 use Rattle.jobs.specs.declared.set.JobSet.{JobSet}
 use Rattle.jobs.specs.declared.refusal.Refusal.{Refusal}
@@ -27,41 +27,43 @@ use Rattle.machine.specs.declared.step.Ticked.the-variants.{Ran, Idle, F
 use Rattle.laws.specs.Words.{everyBelow}
 use Rattle.machine.specs.States.{lastTime, complete, ready, allComplete}
 use Rattle.machine.specs.Times.{machineCheck}
-use Rattle.machine.specs.Pick.{pickUpTo, pick, bestOf}
+use Rattle.machine.specs.Pick.{bestUpTo, pick}
 use Rattle.machine.specs.Steps.{moved, next, tickOf, possible, stateCheck, stepCheck, stepOf}
 use Rattle.machine.proofs.Every.{every-not, every-at, every-ext}
 use Rattle.machine.proofs.Readiness.{predecessor-bare, predecessor-alike, ready-parts, complete-ne}
 use Rattle.machine.proofs.RunningTimes.{set-accepted, times-each}
-use Rattle.machine.proofs.Picks.{Chosen, picked, pick-alike}
+use Rattle.machine.proofs.Picks.{Chosen, Picked, none, one, picked-up-to, best-alike}
 
 -- ---- the scan
-pub best-found : (t : Table) (e : Entry) (best : Best) → best ≡ bestOf t e → best .found ≡ true → e ≡ runs (best .at)
-best-found t idle best q h = absurd (both-ways h (ap (λ (b : Best). b .found) q))
-best-found t (runs u) best q h = ap runs (sym (ap (λ (b : Best). b .at) q))
+module _ {a t : Table} {n : ℕ} (h : Alike a t n) (whole : t .count ≡ n) (times : List ℕ) (s : State) (best : Best) (e : best ≡ bestUpTo a times s n) where
+  scanned : best ≡ bestUpTo t times s (t .count)
+  scanned = e ∙ best-alike h times s n (omega arith) ∙ ap (bestUpTo t times s) (sym whole)
 
-pub best-none : (t : Table) (e : Entry) (best : Best) → best ≡ bestOf t e → best .found ≡ false → e ≡ idle
-best-none t idle best q h = refl
-best-none t (runs u) best q h = absurd (both-ways (ap (λ (b : Best). b .found) q) h)
-
-module _ {a t : Table} {n : ℕ} (h : Alike a t n) (whole : t .count ≡ n) (times : List ℕ) (s : State) where
-  scan-pick : pickUpTo a times s n ≡ pick t times s
+  pub scan-found : best .found ≡ true → pick t times s ≡ runs (best .at)
   unfolding pick
-  scan-pick = pick-alike h times s n (omega arith) ∙ ap (pickUpTo t times s) (sym whole)
+  scan-found f = rw (← scanned, f)
 
-  module _ (best : Best) (e : best ≡ bestOf a (pickUpTo a times s n)) where
-    pub scan-found : best .found ≡ true → pick t times s ≡ runs (best .at)
-    scan-found f = sym scan-pick ∙ best-found a (pickUpTo a times s n) best e f
-
-    pub scan-none : best .found ≡ false → pick t times s ≡ idle
-    scan-none f = sym scan-pick ∙ best-none a (pickUpTo a times s n) best e f
+  pub scan-none : best .found ≡ false → pick t times s ≡ idle
+  unfolding pick
+  scan-none f = rw (← scanned, f)
 
 -- ---- the pick
 module _ (t : Table) (times : List ℕ) (s : State) where
   pub pick-chosen : (u : ℕ) → pick t times s ≡ runs u → Chosen t times s (t .count) u
-  pick-chosen u e = rw e at (picked t times s)
+  unfolding pick
+  pick-chosen u = by-picked (bestUpTo t times s (t .count)) (picked-up-to t times s (t .count))
+    where
+      by-picked : (best : Best) → Picked t times s (t .count) best → cond (best .found) (runs (best .at)) idle ≡ runs u → Chosen t times s (t .count) u
+      by-picked best (none f h) e = let q : idle ≡ runs u = rw f at e in let z : _≡_ {A = ℕ} 0 1 = cc in absurd (omega arith)
+      by-picked best (one f p c h) e = let q : runs (best .at) ≡ runs u = rw f at e in let same : best .at ≡ u = cc in rw same at h
 
   pub pick-none : pick t times s ≡ idle → (k : ℕ) → k < t .count → ready t times s k ≡ false
-  pick-none e = rw e at (picked t times s)
+  unfolding pick
+  pick-none = by-picked (bestUpTo t times s (t .count)) (picked-up-to t times s (t .count))
+    where
+      by-picked : (best : Best) → Picked t times s (t .count) best → cond (best .found) (runs (best .at)) idle ≡ idle → (k : ℕ) → k < t .count → ready t times s k ≡ false
+      by-picked best (none f h) e = h
+      by-picked best (one f p c h) e = let q : runs (best .at) ≡ idle = rw f at e in let z : _≡_ {A = ℕ} 0 1 = cc in absurd (omega arith)
 
   pub pick-open : (u : ℕ) → pick t times s ≡ runs u → complete times (s .work) u ≡ false
   pick-open u e = ready-parts t times s u (pick-chosen u e .is-ready) .unfinished
@@ -152,7 +154,7 @@ abbrev pub Prepared : JobSet → Columns → List ℕ → Type 0
 Prepared set columns times = (machineCheck (jobsOf set) times ≡ Passed) × Alike (seen (columns .chain) (columns .urgency) (columns .release)) (tableOf (jobsOf set)) (set .count)
 
 module _ (set : JobSet) (columns : Columns) (times : List ℕ) (p : Prepared set columns times) where
-  module _ (s : State) (best : Best) (e : best ≡ bestOf (seen (columns .chain) (columns .urgency) (columns .release)) (pickUpTo (seen (columns .chain) (columns .urgency) (columns .release)) times s (set .count))) where
+  module _ (s : State) (best : Best) (e : best ≡ bestUpTo (seen (columns .chain) (columns .urgency) (columns .release)) times s (set .count)) where
     pub advance-none : best .found ≡ false → pick (tableOf (jobsOf set)) times s ≡ idle
     advance-none f = scan-none (p .1) (length-jobs set) times s best e f
 

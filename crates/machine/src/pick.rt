@@ -3,7 +3,7 @@ ghost use Rattle.laws.specs.Words.{_≡_, _<_, _≤_, cond, length};
 ghost use Rattle.jobs.specs.Limits.{maxJobs};
 ghost use Rattle.theory.proofs.Columns.{seen};
 ghost use Rattle.machine.specs.States.{ready};
-ghost use Rattle.machine.specs.Pick.{outranks, pickUpTo, bestOf, better};
+ghost use Rattle.machine.specs.Pick.{outranks, better, bestUpTo};
 use crate::ready::is_ready;
 use jobs::set::JobSet;
 
@@ -65,7 +65,7 @@ fn consider<'a, 'b>(
     better_of(best, at, urgency[at], chain[at])
 }
 
-// The pick of the first count jobs; its parts are carried one by one, which is much faster than to copy the whole.
+// The best of the first count jobs; its parts are carried one by one, which is much faster than to copy the whole.
 pub(crate) fn best_of<'a, 'b>(
     count: usize,
     chain: &'a [u64; JobSet::MAX_JOBS],
@@ -76,7 +76,7 @@ pub(crate) fn best_of<'a, 'b>(
     time: u64,
 ) -> Best
     requires { ⌜ (count ≤ maxJobs) × (count ≤ length (now times)) ⌝ }
-    ensures { λ r. let t = seen (now (chain .entry)) (now (urgency .entry)) (now (release .entry)) in ⌜ r ≡ bestOf t (pickUpTo t (now (times .entry)) (record { time = time; work = now (work .entry) }) count) ⌝ }
+    ensures { λ r. ⌜ r ≡ bestUpTo (seen (now (chain .entry)) (now (urgency .entry)) (now (release .entry))) (now (times .entry)) (record { time = time; work = now (work .entry) }) count ⌝ }
 {
     let mut found = false;
     let mut at: usize = 0;
