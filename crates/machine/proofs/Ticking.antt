@@ -28,7 +28,7 @@ use Rattle.laws.specs.Words.{everyBelow}
 use Rattle.machine.specs.States.{lastTime, complete, ready, allComplete}
 use Rattle.machine.specs.Times.{machineCheck}
 use Rattle.machine.specs.Pick.{bestUpTo, pick}
-use Rattle.machine.specs.Steps.{moved, next, tickOf, possible, stateCheck, stepCheck, stepOf}
+use Rattle.machine.specs.Steps.{moved, next, tickOf, possible, stateCheck, stepOf}
 use Rattle.machine.proofs.Every.{every-not, every-at, every-ext}
 use Rattle.machine.proofs.Readiness.{predecessor-bare, predecessor-alike, ready-parts, complete-ne}
 use Rattle.machine.proofs.RunningTimes.{set-accepted, times-each}
@@ -181,14 +181,14 @@ module _ (set : JobSet) (columns : Columns) (times : List ℕ) (p : Prepared set
 -- ---- the checks of a step, in their order
 module _ (js : List Job) (times : List ℕ) (s : State) where
   pub step-refused : (r : Refusal) → machineCheck js times ≡ Refused r → stepOf js times s ≡ record { ticked = RefusedTick r; state = s }
-  unfolding stepOf stepCheck
+  unfolding stepOf
   step-refused r e = rw e
 
   module _ (passed : machineCheck js times ≡ Passed) where
     pub step-impossible : (r : Refusal) → stateCheck (tableOf js) times s ≡ Refused r → stepOf js times s ≡ record { ticked = RefusedTick r; state = s }
-    unfolding stepOf stepCheck
+    unfolding stepOf
     step-impossible r e = rw (passed, e)
 
     pub step-ticks : stateCheck (tableOf js) times s ≡ Passed → stepOf js times s ≡ tickOf js times s
-    unfolding stepOf stepCheck
+    unfolding stepOf
     step-ticks e = rw (passed, e)

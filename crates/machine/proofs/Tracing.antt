@@ -31,7 +31,7 @@ use Rattle.machine.specs.States.{lastTime, allComplete}
 use Rattle.machine.specs.Times.{machineCheck}
 use Rattle.machine.specs.Runs.{after, entry}
 use Rattle.machine.proofs.Spans.{goesOn, extended, on-at, spans-within-twice}
-use Rattle.machine.specs.Traces.{noted, spans, row, rows, roomFor, traceCheck, traced, traceOf, tracedIn}
+use Rattle.machine.specs.Traces.{noted, spans, row, rows, traceCheck, traced, traceOf, tracedIn}
 use Rattle.machine.proofs.Running.{at-limit, lastRelease, few-jobs, released-by, entry-settled, Reached, reached-settled, reached-limit}
 
 -- ---- four numbers stored one after the other
@@ -256,12 +256,12 @@ module _ (js : List Job) (times buffer : List ℕ) where
 
   module _ (passed : machineCheck js times ≡ Passed) where
     pub trace-short : length buffer < 8 * length js → (traceOf js times (length buffer) ≡ RefusedTrace ShortBuffer) × (tracedIn js times buffer ≡ buffer)
-    unfolding traceOf tracedIn traceCheck roomFor
+    unfolding traceOf tracedIn traceCheck
     trace-short l = (rw (passed, lt-leb (8 * length js) (length buffer) l), rw (passed, lt-leb (8 * length js) (length buffer) l))
 
     pub trace-written : 8 * length js ≤ length buffer
         → (traceOf js times (length buffer) ≡ Entries (length (traced js times))) × (tracedIn js times buffer ≡ patched buffer 0 (rows js (traced js times)))
-    unfolding traceOf tracedIn traceCheck roomFor
+    unfolding traceOf tracedIn traceCheck
     trace-written l = (rw (passed, le-leb (8 * length js) (length buffer) l), rw (passed, le-leb (8 * length js) (length buffer) l))
 
 pub traced-length : (js : List Job) (times buffer : List ℕ) → machineCheck js times ≡ Passed → 8 * length js ≤ length buffer
