@@ -93,9 +93,8 @@ pub record Stored (js : List Job) (ss : List Span) (u time : ℕ) (p : Put) : Ty
 -- where a tick of the job at u goes in a trace of n entries
 abbrev pub putAt : Span → ℕ → ℕ → ℕ → Put
 putAt last n u time =
-    cond (ltb 0 n && (eqb (last .at) u && eqb (last .to) time))
-    (record { entry = n - 1; entries = n; span = record { at = u; from = last .from; to = time + 1 } })
-    (record { entry = n; entries = n + 1; span = record { at = u; from = time; to = time + 1 } })
+    let on = ltb 0 n && (eqb (last .at) u && eqb (last .to) time) in
+    record { entry = cond on (n - 1) n; entries = cond on n (n + 1); span = record { at = u; from = cond on (last .from) time; to = time + 1 } }
 
 module _ (js : List Job) (u time : ℕ) where
   abbrev new : Span

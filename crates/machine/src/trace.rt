@@ -37,7 +37,7 @@ pub struct Put {
 // The job at a place ran in a tick: the last entry goes on, or a new one begins.
 fn put_at(last: Span, entries: usize, at: usize, time: u64) -> Put
     requires { ⌜ (entries ≤ 2 * maxJobs) × (time < lastTime) ⌝ }
-    ensures { λ r. ⌜ r ≡ cond (ltb 0 entries && (eqb (last .at) at && eqb (last .to) time)) (record { entry = entries - 1; entries = entries; span = record { at = at; from = last .from; to = time + 1 } }) (record { entry = entries; entries = entries + 1; span = record { at = at; from = time; to = time + 1 } }) ⌝ }
+    ensures { λ r. let on = ltb 0 entries && (eqb (last .at) at && eqb (last .to) time) in ⌜ r ≡ record { entry = cond on (entries - 1) entries; entries = cond on entries (entries + 1); span = record { at = at; from = cond on (last .from) time; to = time + 1 } } ⌝ }
 {
     let to = time + 1;
     if 0 < entries {
