@@ -15,9 +15,8 @@ use Rattle.theory.proofs.Rules.{first-after}
 use Rattle.theory.proofs.Releases.{release-first, release-next}
 use Rattle.machine.specs.declared.state.State.{State}
 use Rattle.machine.specs.States.{complete, predecessorComplete, ready}
-use Rattle.machine.specs.Pick.{better, pickUpTo, bestOf}
-use Rattle.machine.specs.Private.{considered}
-use Rattle.machine.proofs.Picks.{considered-next}
+use Rattle.machine.specs.Pick.{better, bestUpTo}
+use Rattle.machine.proofs.Picks.{best-step}
 use Rattle.lent.specs.declared.scan.Scan.{Scan}
 use Rattle.lent.specs.Scans.{scanOf}
 
@@ -83,8 +82,8 @@ module _ (js : List Job) (times : List ℕ) (s : State) where
   released-by scan job u f =
       rw (f .earliest, f .released, f .since) (released-both (job .release) (f .before) (scan .least) (s .time))
 
-  best-so-far : (u : ℕ) → scanOf js times s u .best ≡ bestOf t (pickUpTo t times s u)
-  unfolding scanOf pickUpTo
+  best-so-far : (u : ℕ) → scanOf js times s u .best ≡ bestUpTo t times s u
+  unfolding scanOf
   best-so-far zero = refl
   best-so-far (suc v) = refl
 
@@ -130,12 +129,11 @@ module _ (js : List Job) (times : List ℕ) (s : State) {scan : Scan} {job : Job
     ready-leading h = rw (e, c, leading h .predecessor)
 
   -- ---- the best after it
-  best-next : cond (ready (tableOf js) times s u) (better (scan .best) u (urgencyOf job) (job .chain)) (scan .best) ≡ bestOf (tableOf js) (pickUpTo (tableOf js) times s (suc u))
-  unfolding considered
-  best-next = rw (scanned, here, ← add-one u) (considered-next (tableOf js) times s (scanOf js times s u .best) u (best-so-far js times s u))
+  best-next : cond (ready (tableOf js) times s u) (better (scan .best) u (urgencyOf job) (job .chain)) (scan .best) ≡ bestUpTo (tableOf js) times s (suc u)
+  best-next = rw (scanned, here, ← add-one u) (best-step (tableOf js) times s (scanOf js times s u .best) u (best-so-far js times s u))
 
-  pub best-ready : ready (tableOf js) times s u ≡ true → better (scan .best) u (urgencyOf job) (job .chain) ≡ bestOf (tableOf js) (pickUpTo (tableOf js) times s (suc u))
+  pub best-ready : ready (tableOf js) times s u ≡ true → better (scan .best) u (urgencyOf job) (job .chain) ≡ bestUpTo (tableOf js) times s (suc u)
   best-ready r = rw r at best-next
 
-  pub best-unready : ready (tableOf js) times s u ≡ false → scan .best ≡ bestOf (tableOf js) (pickUpTo (tableOf js) times s (suc u))
+  pub best-unready : ready (tableOf js) times s u ≡ false → scan .best ≡ bestUpTo (tableOf js) times s (suc u)
   best-unready r = rw r at best-next

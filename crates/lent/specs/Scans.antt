@@ -1,18 +1,18 @@
 -- The scan over lent job records. Document 01, "The scan that picks the next job goes over the lent job records and changes none". Assumes nothing.
 use Rattle.laws.specs.Words.{ℕ, zero, suc, _-_, false, List, leb}
 use Rattle.jobs.specs.declared.job.Job.{Job}
-use Rattle.theory.specs.{Table.tableOf, Runs.idle}
+use Rattle.theory.specs.Table.{tableOf}
 use Rattle.machine.specs.declared.state.State.{State}
 use Rattle.lent.specs.declared.scan.Scan.{Scan}
-use Rattle.machine.specs.{States.complete, Pick.pickUpTo, Pick.bestOf}
+use Rattle.machine.specs.{States.complete, Pick.bestUpTo}
 
--- What a scan of the first n records knows: the pick of a step and the figures of the last record, with 0 ticks since a release that is still to come.
+-- What a scan of the first n records knows: the best of them, as in a step, and figures of the last record, with 0 ticks since a release still to come.
 unfoldable pub scanOf : List Job → List ℕ → State → ℕ → Scan
-scanOf js times s zero = record { best = bestOf (tableOf js) idle; last = 0; least = 0; done = false; released = false; since = 0 }
+scanOf js times s zero = record { best = bestUpTo (tableOf js) times s 0; last = 0; least = 0; done = false; released = false; since = 0 }
 scanOf js times s (suc u) =
     let t = tableOf js in
     record {
-      best = bestOf t (pickUpTo t times s (suc u));
+      best = bestUpTo t times s (suc u);
       last = t .chain u;
       least = t .least u;
       done = complete times (s .work) u;

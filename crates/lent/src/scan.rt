@@ -4,7 +4,7 @@ ghost use Rattle.laws.specs.Words.{_≡_, ℕ, suc, _-_, _&&_, List, length, ge
 ghost use Rattle.jobs.specs.Jobs.{jobAt};
 ghost use Rattle.theory.specs.Table.{tableOf};
 ghost use Rattle.machine.specs.States.{ready};
-ghost use Rattle.machine.specs.Pick.{pickUpTo, bestOf};
+ghost use Rattle.machine.specs.Pick.{bestUpTo};
 ghost use Rattle.lent.specs.Scans.{scanOf};
 use jobs::job::Job;
 use machine::pick::Best;
@@ -89,7 +89,7 @@ fn is_ready_record(scan: Scan, job: Job, at: usize, times: &[u64], state: State)
 
 // The best of a scan after one more record.
 fn best_after(scan: Scan, job: Job, at: usize, times: &[u64], state: State) -> Best
-    ensures { λ r. ⌜ ((js : List Job) → scan ≡ scanOf js (now (times .entry)) state at → job ≡ jobAt js at → r ≡ bestOf (tableOf js) (pickUpTo (tableOf js) (now (times .entry)) state (suc at))) ⌝ }
+    ensures { λ r. ⌜ ((js : List Job) → scan ≡ scanOf js (now (times .entry)) state at → job ≡ jobAt js at → r ≡ bestUpTo (tableOf js) (now (times .entry)) state (suc at)) ⌝ }
 {
     if is_ready_record(scan, job, at, times, state) {
         return better_of(scan.best, at, Job::urgency(job), job.chain);

@@ -27,7 +27,7 @@ use Rattle.machine.specs.States.{lastTime, complete, allComplete}
 use Rattle.machine.specs.Times.{machineCheck}
 use Rattle.machine.specs.Pick.{pick}
 use Rattle.machine.specs.Steps.{ranAs, tickOf}
-use Rattle.machine.specs.Runs.{entry, entries, completion, finish, completions}
+use Rattle.machine.specs.Runs.{entry, completion, finish, completions}
 use Rattle.machine.specs.Claims.{EveryMachine, AllDone, Ends, FinishedWhen, Demanded, KeepsBounds, GivesBack, WithinTwice}
 use Rattle.machine.proofs.Every.{every-at, first-failing}
 use Rattle.machine.proofs.Readiness.{complete-eq, complete-ne}
@@ -101,8 +101,8 @@ module _ (js : List Job) (times : List ℕ) (passed : machineCheck js times ≡ 
       let few = few-jobs js times passed in
       let rel = released-by js times passed in
       let at = run-entry t times lastRelease few rel (suc m) m (omega arith) in
-      let done : Complete times (entries t times (suc m)) u (boundAt (itr t .bounds) u)
-      = demand-3 js (set-passed js times passed) .by-itr u l (t .earliest) times (entries t times (suc m)) is (omega (arith, run-length t times lastRelease few rel (suc m))) in
+      let done : Complete times (tabulate 0 (suc m) (entry t times)) u (boundAt (itr t .bounds) u)
+      = demand-3 js (set-passed js times passed) .by-itr u l (t .earliest) times (tabulate 0 (suc m) (entry t times)) is (omega (arith, run-length t times lastRelease few rel (suc m))) in
       absurd (legal-at well is m u (at ∙ e) .1 .unfinished (complete-stays well is u (boundAt (itr t .bounds) u) m late done)))
       (λ early. early)
 

@@ -19,14 +19,13 @@ use Rattle.machine.specs.States.{complete, ready, allComplete}
 use Rattle.machine.specs.Pick.{pick}
 use Rattle.machine.specs.Steps.{moved, next}
 use Rattle.machine.specs.Runs.{after}
-use Rattle.machine.specs.Private.{sumOf}
 use Rattle.machine.proofs.Every.{every-at, first-failing}
+use Rattle.machine.proofs.RunningTimes.{sumOf}
 use Rattle.machine.proofs.Readiness.{complete-eq, complete-ne, parts-ready, predecessor-all, worked-here, worked-other}
 use Rattle.machine.proofs.Ticking.{pick-chosen, pick-none, pick-open, pick-left, next-moved, next-stays}
 
 -- ---- work, added up
 pub sum-worked : (work : List ℕ) (u n : ℕ) → u < n → u < length work → sumOf (set work u (getD work u 0 + 1)) n ≡ sumOf work n + 1
-unfolding sumOf
 sum-worked work u n l room =
     sum-bump n (λ i. getD work i 0) (λ i. getD (set work u (getD work u 0 + 1)) i 0) u 1 l
     (worked-here work work u room)
@@ -34,12 +33,10 @@ sum-worked work u n l room =
 
 module _ (times work : List ℕ) (n : ℕ) where
   pub all-sum : allComplete times work n ≡ true → sumOf work n ≡ sumOf times n
-  unfolding sumOf
   all-sum h = sum-ext n (λ i. getD work i 0) (λ i. getD times i 0) (λ i l. complete-eq times work i (every-at (complete times work) n i l h))
 
   module _ (within : (u : ℕ) → u < n → getD work u 0 ≤ getD times u 0) where
     pub sum-all : sumOf times n ≤ sumOf work n → allComplete times work n ≡ true
-    unfolding sumOf
     sum-all h =
         by-test (allComplete times work n)
         (λ e. e)

@@ -7,17 +7,17 @@ use native.Mathlib.Omega.{arith}
 use native.Mathlib.Numerals.{add-one}
 use lib.ListN.{length, getD, set, length-set}
 use lib.Seq.{getD-set-same, getD-set-other}
-use borrow.Author.Tests.{ne-eqb}
 use Rattle.laws.proofs.Tests.{by-last}
 use Rattle.jobs.specs.declared.job.Job.{Job}
 use Rattle.jobs.specs.Limits.{maxJobs, maxRelease, maxTime}
 use Rattle.jobs.specs.Jobs.{noJob, jobAt, urgencyOf}
 use Rattle.jobs.proofs.Accepted.{Accepted}
-use Rattle.theory.specs.Table.{joined, effectiveEarliest, tableOf}
+use Rattle.theory.specs.Table.{given, tableOf}
+use Rattle.theory.proofs.Columns.{seen, Alike}
+use Rattle.theory.proofs.Prior.{prior}
+use Rattle.theory.proofs.Predecessors.{notBefore, release-by}
 use Rattle.theory.proofs.Releases.{earliest-latest}
 use Rattle.theory.proofs.AcceptedSets.{accepted-latest}
-use Rattle.machine.specs.declared.columns.Columns.{Columns}
-use Rattle.machine.specs.Private.{Shown, carried}
 
 -- the job before place n, and its effective release
 abbrev pub lastAt : List Job → ℕ → Job
@@ -36,31 +36,32 @@ module _ (f : ℕ → ℕ) (column : List ℕ) (n x : ℕ) (room : n < length co
       (λ q. rw (q, getD-set-same column n x 0 room) e)
       (λ m. getD-set-other column n i x 0 (λ q. omega arith) ∙ h i m)
 
-pub record Filled (js : List Job) (n : ℕ) (last : Job) (before : ℕ) (columns : Columns) : Type 0 where
+pub record Filled (js : List Job) (n : ℕ) (last : Job) (before : ℕ) (chain urgency release : List ℕ) : Type 0 where
   pub inside : n ≤ length js
   pub last-is : last ≡ lastAt js n
   pub before-is : before ≡ beforeAt js n
-  pub shown : Shown (tableOf js) columns n
-  pub long-chain : length (columns .chain) ≡ maxJobs
-  pub long-urgency : length (columns .urgency) ≡ maxJobs
-  pub long-release : length (columns .release) ≡ maxJobs
+  pub shown : Alike (seen chain urgency release) (tableOf js) n
+  pub long-chain : length chain ≡ maxJobs
+  pub long-urgency : length urgency ≡ maxJobs
+  pub long-release : length release ≡ maxJobs
 
-abbrev pub columnsOf : List ℕ → List ℕ → List ℕ → Columns
-columnsOf chain urgency release = record { chain = chain; urgency = urgency; release = release }
+-- the release of a job, from the job before it and that one's effective release
+abbrev released : Job → ℕ → Job → ℕ
+released last before job = notBefore (last .chain) (job .chain) (job .release) (before + last .least)
+
+released-is : (js : List Job) (n : ℕ) → released (lastAt js n) (beforeAt js n) (jobAt js n) ≡ tableOf js .earliest n
+unfolding prior
+released-is js zero = sym (release-by (given js) 0)
+released-is js (suc k) = sym (release-by (given js) (suc k))
 
 module _ (js : List Job) (ok : Accepted js) where
   release-limit : (n : ℕ) → n ≤ length js → beforeAt js n + lastAt js n .least ≤ maxRelease + maxJobs * maxTime + maxTime
   release-limit zero l = omega arith
   release-limit (suc k) l = omega (arith, accepted-latest js ok k l, earliest-latest js k, ok .limits k l .range, ok .limits k l .time)
 
-  carried-is : (n : ℕ) → n < length js → carried (lastAt js n) (beforeAt js n) (jobAt js n) ≡ tableOf js .earliest n
-  unfolding carried effectiveEarliest joined
-  carried-is zero l = rw (ne-eqb 0 (jobAt js 0 .chain) (λ e. omega (arith, ok .first .0)))
-  carried-is (suc k) l = refl
-
-  pub filled-start : (columns : Columns) → length (columns .chain) ≡ maxJobs → length (columns .urgency) ≡ maxJobs → length (columns .release) ≡ maxJobs
-      → (last : Job) → last ≡ noJob → Filled js 0 last 0 columns
-  filled-start columns a b c last e =
+  pub filled-start : (chain urgency release : List ℕ) → length chain ≡ maxJobs → length urgency ≡ maxJobs → length release ≡ maxJobs
+      → (last : Job) → last ≡ noJob → Filled js 0 last 0 chain urgency release
+  filled-start chain urgency release a b c last e =
       record {
         inside = omega arith;
         last-is = e;
@@ -71,29 +72,29 @@ module _ (js : List Job) (ok : Accepted js) where
         long-release = c;
       }
 
-  module _ {n : ℕ} {last : Job} {before : ℕ} {columns : Columns} (f : Filled js n last before columns) where
+  module _ {n : ℕ} {last : Job} {before : ℕ} {chain urgency release : List ℕ} (f : Filled js n last before chain urgency release) where
     pub filled-fits : before + last .least < 2 ^ 64
     filled-fits = rw (f .before-is, f .last-is) (omega (arith, release-limit n (f .inside)))
 
-    pub filled-next : n < length js → (job : Job) → job ≡ jobAt js n → (r : ℕ) → r ≡ carried last before job → (p : ℕ) → p ≡ urgencyOf job
-        → Filled js (n + 1) job r (columnsOf (set (columns .chain) n (job .chain)) (set (columns .urgency) n p) (set (columns .release) n r))
+    pub filled-next : n < length js → (job : Job) → job ≡ jobAt js n → (r : ℕ) → r ≡ released last before job → (p : ℕ) → p ≡ urgencyOf job
+        → Filled js (n + 1) job r (set chain n (job .chain)) (set urgency n p) (set release n r)
     filled-next l job e r q p w =
         let room : n < maxJobs = omega (arith, ok .few) in
-        let effective : r ≡ tableOf js .earliest n = q ∙ rw (f .before-is, f .last-is, e) (carried-is n l) in
+        let effective : r ≡ tableOf js .earliest n = q ∙ rw (f .before-is, f .last-is, e) (released-is js n) in
         record {
           inside = omega arith;
           last-is = e ∙ ap (lastAt js) (sym (add-one n));
           before-is = effective ∙ ap (beforeAt js) (sym (add-one n));
           shown =
               record {
-                chain = column-next (tableOf js .chain) (columns .chain) n (job .chain) (omega (arith, f .long-chain)) (ap (λ (j : Job). j .chain) e) (f .shown .chain);
-                urgency = column-next (tableOf js .urgency) (columns .urgency) n p (omega (arith, f .long-urgency)) (w ∙ ap urgencyOf e) (f .shown .urgency);
-                release = column-next (tableOf js .earliest) (columns .release) n r (omega (arith, f .long-release)) effective (f .shown .release);
+                chain = column-next (tableOf js .chain) chain n (job .chain) (omega (arith, f .long-chain)) (ap (λ (j : Job). j .chain) e) (f .shown .chain);
+                urgency = column-next (tableOf js .urgency) urgency n p (omega (arith, f .long-urgency)) (w ∙ ap urgencyOf e) (f .shown .urgency);
+                release = column-next (tableOf js .earliest) release n r (omega (arith, f .long-release)) effective (f .shown .release);
               };
-          long-chain = length-set (columns .chain) n (job .chain) ∙ f .long-chain;
-          long-urgency = length-set (columns .urgency) n p ∙ f .long-urgency;
-          long-release = length-set (columns .release) n r ∙ f .long-release;
+          long-chain = length-set chain n (job .chain) ∙ f .long-chain;
+          long-urgency = length-set urgency n p ∙ f .long-urgency;
+          long-release = length-set release n r ∙ f .long-release;
         }
 
-    pub filled-end : (count : ℕ) → n ≡ count → Shown (tableOf js) columns count
-    filled-end count e = subst (Shown (tableOf js) columns) e (f .shown)
+    pub filled-end : (count : ℕ) → n ≡ count → Alike (seen chain urgency release) (tableOf js) count
+    filled-end count e = subst (Alike (seen chain urgency release) (tableOf js)) e (f .shown)

@@ -8,6 +8,7 @@ use mathlib.Core.Logic.{_⊎_, inl, inr}
 use native.Mathlib.Omega.{arith}
 use native.Mathlib.Nat.{add-zero, zero-add}
 use lib.ListN.{length, getD}
+use Rattle.laws.specs.Words.{tabulate}
 use Rattle.laws.proofs.Tests.{by-test, by-equal, both-ways}
 use Rattle.laws.proofs.Tabulate.{length-tabulate, getD-tabulate}
 use Rattle.jobs.specs.Limits.{maxJobs}
@@ -18,7 +19,7 @@ use Rattle.machine.specs.declared.state.State.{State}
 use Rattle.machine.specs.States.{complete, predecessorComplete, ready, allComplete}
 use Rattle.machine.specs.Pick.{pick}
 use Rattle.machine.specs.Steps.{moved}
-use Rattle.machine.specs.Runs.{after, entry, entries}
+use Rattle.machine.specs.Runs.{after, entry}
 use Rattle.machine.proofs.Every.{every-at}
 use Rattle.machine.proofs.Readiness.{complete-eq, eq-complete, ne-complete, ready-parts, parts-ready, predecessor-first, predecessor-next, predecessor-none, worked-here, worked-other}
 use Rattle.machine.proofs.Picks.{Before, before-urgent}
@@ -31,14 +32,13 @@ work-idle run u n e = rw e (add-zero (work run u n))
 
 module _ (t : Table) (times : List ℕ) (R : ℕ) (few : t .count ≤ maxJobs) (released : (u : ℕ) → u < t .count → t .earliest u ≤ R) (n : ℕ) where
   abbrev run : List Entry
-  run = entries t times n
+  run = tabulate 0 n (entry t times)
 
   pub run-length : length run ≡ n
-  unfolding entries
   run-length = length-tabulate 0 n (entry t times)
 
   pub run-entry : (i : ℕ) → i < n → entryAt run i ≡ entry t times i
-  unfolding entries entryAt
+  unfolding entryAt
   run-entry i l = getD-tabulate 0 n (entry t times) idle i l ∙ ap (entry t times) (zero-add i)
 
   -- one tick of work

@@ -1,7 +1,7 @@
 -- The pick. What is proved of it rests on these laws of the relation alone: it is asymmetric, and a job that goes before one of two goes before the
 -- other, or the other before the one. Assumes nothing.
 --   Before   a job is picked before another: it goes first, or neither does and it comes first in the table
---   Picked   what the pick of the first n jobs is
+--   Picked   what the best of the first n jobs is
 use Prim.Native.Nat.{ℕ, zero, suc, _+_, _≤_, _<_}
 use mathlib.Core.Path.{_≡_, refl, ap, _∙_}
 use mathlib.Core.Bool.{Bool, true, false, cond, _&&_}
@@ -13,13 +13,12 @@ use lib.Dec.{ltb, eqb}
 use borrow.Author.Tests.{ltb-true, eqb-true, lt-ltb, le-ltb, eq-eqb}
 use Rattle.laws.proofs.Tests.{by-test, by-order, by-last, both-ways, and-left, and-right}
 use Rattle.theory.specs.Table.{Table}
-use Rattle.theory.specs.Runs.{Entry, idle, runs}
+use Rattle.theory.proofs.Columns.{Alike}
 use Rattle.machine.specs.declared.state.State.{State}
 use Rattle.machine.specs.declared.pick.Best.{Best}
 use Rattle.machine.specs.States.{ready}
-use Rattle.machine.specs.Pick.{outranks, goesFirst, preferred, pickUpTo, pick, bestOf, better}
-use Rattle.machine.specs.Private.{considered}
-use Rattle.machine.proofs.Readiness.{Alike, ready-alike}
+use Rattle.machine.specs.Pick.{outranks, better, bestUpTo}
+use Rattle.machine.proofs.Readiness.{ready-alike}
 
 -- ---- the relation
 -- what it takes to outrank
@@ -60,6 +59,10 @@ split p c q d r e h =
     below : Rank p c r e → p ≤ q → q ≤ p → d ≤ c → Rank q d r e
     below (higher x) y z w = higher (omega arith)
     below (equal x v) y z w = equal (omega arith) (omega arith)
+
+-- the job at u goes before the one at v
+unfoldable pub goesFirst : Table → ℕ → ℕ → Bool
+goesFirst t u v = outranks (t .urgency u) (t .chain u) (t .urgency v) (t .chain v)
 
 module _ (t : Table) where
   pub first-asymmetric : (u v : ℕ) → goesFirst t u v ≡ true → goesFirst t v u ≡ true → ⊥
@@ -107,20 +110,20 @@ module _ (t : Table) where
       pub is-ready : ready t times s u ≡ true
       pub top : (k : ℕ) → k < n → ready t times s k ≡ true → (k ≡ u) ⊎ Before u k
 
-    abbrev pub Picked : ℕ → Entry → Type 0
-    Picked n idle = (k : ℕ) → k < n → ready t times s k ≡ false
-    Picked n (runs u) = Chosen n u
+    pub data Picked (n : ℕ) (best : Best) : Type 0 where
+      none : best .found ≡ false → ((k : ℕ) → k < n → ready t times s k ≡ false) → Picked n best
+      one : best .found ≡ true → best .urgency ≡ t .urgency (best .at) → best .chain ≡ t .chain (best .at) → Chosen n (best .at) → Picked n best
 
-    unready : (n : ℕ) → ready t times s n ≡ false → (e : Entry) → Picked n e → Picked (suc n) e
-    unready n r idle h = λ k l. by-last k n l (λ q. ap (ready t times s) q ∙ r) (λ m. h k m)
-    unready n r (runs u) h =
-        record {
+    unready : (n : ℕ) → ready t times s n ≡ false → (best : Best) → Picked n best → Picked (suc n) best
+    unready n r best (none f h) = none f (λ k l. by-last k n l (λ q. ap (ready t times s) q ∙ r) (λ m. h k m))
+    unready n r best (one f p c h) =
+        one f p c (record {
           inside = omega (arith, h .inside);
           is-ready = h .is-ready;
           top = λ k l g. by-last k n l (λ q. absurd (both-ways g (ap (ready t times s) q ∙ r))) (λ m. h .top k m g);
-        }
+        })
 
-    only : (n : ℕ) → ready t times s n ≡ true → Picked n idle → Chosen (suc n) n
+    only : (n : ℕ) → ready t times s n ≡ true → ((k : ℕ) → k < n → ready t times s k ≡ false) → Chosen (suc n) n
     only n r h = record { inside = omega arith; is-ready = r; top = λ k l g. by-last k n l (λ q. inl q) (λ m. absurd (both-ways g (h k m))) }
 
     taken : (n u : ℕ) → ready t times s n ≡ true → Chosen n u → goesFirst t n u ≡ true → Chosen (suc n) n
@@ -142,57 +145,30 @@ module _ (t : Table) where
           top = λ k l q. by-last k n l (λ e. rw e (inr (inr (g, h .inside)))) (λ m. h .top k m q);
         }
 
-    ready-next : (n : ℕ) → ready t times s n ≡ true → (e : Entry) → Picked n e → Picked (suc n) (preferred t e n)
-    ready-next n r idle h = only n r h
-    ready-next n r (runs u) h = by-test (goesFirst t n u) (λ g. rw g (taken n u r h g)) (λ g. rw g (kept n u h g))
+    ready-next : (n : ℕ) → ready t times s n ≡ true → (best : Best) → Picked n best → Picked (suc n) (better best n (t .urgency n) (t .chain n))
+    unfolding better goesFirst
+    ready-next n r best (none f h) = rw f (one refl refl refl (only n r h))
+    ready-next n r best (one f p c h) =
+        by-test (goesFirst t n (best .at))
+        (λ g. rw (f, p, c, g) (one refl refl refl (taken n (best .at) r h g)))
+        (λ g. rw (f, p, c, g) (one refl refl refl (kept n (best .at) h g)))
 
-    pub picked-up-to : (n : ℕ) → Picked n (pickUpTo t times s n)
-    unfolding pickUpTo
-    picked-up-to zero = λ k l. absurd (omega arith)
+    pub picked-up-to : (n : ℕ) → Picked n (bestUpTo t times s n)
+    unfolding bestUpTo
+    picked-up-to zero = none refl (λ k l. absurd (omega arith))
     picked-up-to (suc n) =
         by-test (ready t times s n)
-        (λ r. rw r (ready-next n r (pickUpTo t times s n) (picked-up-to n)))
-        (λ r. rw r (unready n r (pickUpTo t times s n) (picked-up-to n)))
+        (λ r. rw r (ready-next n r (bestUpTo t times s n) (picked-up-to n)))
+        (λ r. rw r (unready n r (bestUpTo t times s n) (picked-up-to n)))
 
-    pub picked : Picked (t .count) (pick t times s)
-    unfolding pick
-    picked = picked-up-to (t .count)
+pub best-step : (t : Table) (times : List ℕ) (s : State) (best : Best) (u : ℕ) → best ≡ bestUpTo t times s u
+    → cond (ready t times s u) (better best u (t .urgency u) (t .chain u)) best ≡ bestUpTo t times s (u + 1)
+unfolding bestUpTo
+best-step t times s best u e = rw (add-one, e)
 
--- ---- the scan keeps the pick
-better-idle : (t : Table) (u : ℕ) → better (bestOf t idle) u (t .urgency u) (t .chain u) ≡ bestOf t (runs u)
-unfolding better
-better-idle t u = refl
-
-better-runs : (t : Table) (v u : ℕ) → better (bestOf t (runs v)) u (t .urgency u) (t .chain u) ≡ bestOf t (preferred t (runs v) u)
-unfolding better goesFirst
-better-runs t v u = by-rank (outranks (t .urgency u) (t .chain u) (t .urgency v) (t .chain v))
-  where
-    by-rank : (b : Bool) → cond b (bestOf t (runs u)) (bestOf t (runs v)) ≡ bestOf t (cond b (runs u) (runs v))
-    by-rank true = refl
-    by-rank false = refl
-
-better-preferred : (t : Table) (e : Entry) (u : ℕ) → better (bestOf t e) u (t .urgency u) (t .chain u) ≡ bestOf t (preferred t e u)
-better-preferred t idle u = better-idle t u
-better-preferred t (runs v) u = better-runs t v u
-
-pub considered-next : (t : Table) (times : List ℕ) (s : State) (best : Best) (u : ℕ) → best ≡ bestOf t (pickUpTo t times s u)
-    → considered t times s best u ≡ bestOf t (pickUpTo t times s (u + 1))
-unfolding considered pickUpTo
-considered-next t times s best u e =
-    rw (add-one, e) (by-test (ready t times s u) (λ r. rw r (better-preferred t (pickUpTo t times s u) u)) (λ r. rw r))
-
--- ---- tables that agree have the same pick
+-- ---- tables that agree have the same best
 module _ {a b : Table} {n : ℕ} (same : Alike a b n) (times : List ℕ) (s : State) where
-  first-alike : (u v : ℕ) → u < n → v < n → goesFirst a u v ≡ goesFirst b u v
-  unfolding goesFirst
-  first-alike u v l m = rw (same .urgency u l, same .urgency v m, same .chain u l, same .chain v m)
-
-  preferred-alike : (m u : ℕ) → m ≤ n → u < n → (e : Entry) → Picked a times s m e → preferred a e u ≡ preferred b e u
-  preferred-alike m u k l idle h = refl
-  preferred-alike m u k l (runs v) h = rw (first-alike u v l (omega (arith, h .inside)))
-
-  pub pick-alike : (m : ℕ) → m ≤ n → pickUpTo a times s m ≡ pickUpTo b times s m
-  unfolding pickUpTo
-  pick-alike zero l = refl
-  pick-alike (suc m) l =
-      rw (ready-alike same times s m l, ← pick-alike m (omega arith), preferred-alike m m (omega arith) l (pickUpTo a times s m) (picked-up-to a times s m))
+  pub best-alike : (m : ℕ) → m ≤ n → bestUpTo a times s m ≡ bestUpTo b times s m
+  unfolding bestUpTo
+  best-alike zero l = refl
+  best-alike (suc m) l = rw (ready-alike same times s m l, best-alike m (omega arith), same .urgency m l, same .chain m l)

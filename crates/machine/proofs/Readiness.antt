@@ -12,9 +12,13 @@ use lib.Seq.{getD-set-same, getD-set-other}
 use borrow.Author.Tests.{leb-true, le-leb, lt-leb, eqb-true, eqb-false, eq-eqb, ne-eqb, not-true}
 use Rattle.laws.proofs.Tests.{and-left, and-right}
 use Rattle.theory.specs.Table.{Table, joined}
+use Rattle.theory.proofs.Columns.{seen, Alike}
 use Rattle.machine.specs.declared.state.State.{State}
 use Rattle.machine.specs.States.{complete, predecessorComplete, ready}
-use Rattle.machine.specs.Private.{seen}
+
+-- a state by its time and work
+abbrev pub stateOf : ℕ → List ℕ → State
+stateOf time work = record { time = time; work = work }
 
 pub complete-eq : (times work : List ℕ) (u : ℕ) → complete times work u ≡ true → getD work u 0 ≡ getD times u 0
 unfolding complete
@@ -108,11 +112,6 @@ ready-seen chain p r times s zero = refl
 ready-seen chain p r times s (suc v) = refl
 
 -- ---- tables that agree
-pub record Alike (a b : Table) (n : ℕ) : Type 0 where
-  pub chain : (i : ℕ) → i < n → a .chain i ≡ b .chain i
-  pub urgency : (i : ℕ) → i < n → a .urgency i ≡ b .urgency i
-  pub release : (i : ℕ) → i < n → a .earliest i ≡ b .earliest i
-
 module _ {a b : Table} {n : ℕ} (same : Alike a b n) (times : List ℕ) where
   pub predecessor-alike : (work : List ℕ) (u : ℕ) → u < n → predecessorComplete a times work u ≡ predecessorComplete b times work u
   unfolding predecessorComplete joined

@@ -26,6 +26,8 @@ use Rattle.jobs.specs.Jobs.{jobsOf}
 use Rattle.jobs.proofs.Sets.{length-jobs}
 use Rattle.theory.specs.Table.{Table, tableOf}
 use Rattle.theory.specs.Runs.{Entry, idle, runs, names}
+use Rattle.theory.proofs.Columns.{seen}
+use Rattle.theory.proofs.NextRelease.{next-le}
 use Rattle.theory.proofs.Releases.{earliest-latest}
 use Rattle.theory.proofs.AcceptedSets.{accepted-latest}
 use Rattle.machine.specs.declared.columns.Columns.{Columns}
@@ -33,13 +35,13 @@ use Rattle.machine.specs.declared.pick.Best.{Best}
 use Rattle.machine.specs.declared.run.Completed.{Completed}
 use Rattle.machine.specs.States.{lastTime, allComplete}
 use Rattle.machine.specs.Times.{machineCheck}
-use Rattle.machine.specs.Pick.{pickUpTo, pick, bestOf}
+use Rattle.machine.specs.Pick.{bestUpTo, pick}
 use Rattle.machine.specs.Steps.{moved}
 use Rattle.machine.specs.Runs.{after, entry, completion, finish, completions, runOf}
-use Rattle.machine.specs.Private.{seen, stateOf, sumOf, nextTime, Prepared}
-use Rattle.machine.proofs.Idling.{next-le, time-ran, time-idle, next-later, pick-same}
-use Rattle.machine.proofs.RunningTimes.{set-accepted, times-each, times-brief, sum-limit}
-use Rattle.machine.proofs.Ticking.{pick-chosen, next-moved, advance-none, advance-found, advance-inside, advance-room, advance-work}
+use Rattle.machine.proofs.Readiness.{stateOf}
+use Rattle.machine.proofs.Idling.{nextTime, time-ran, time-idle, next-later, pick-same}
+use Rattle.machine.proofs.RunningTimes.{sumOf, set-accepted, times-each, times-brief, sum-limit}
+use Rattle.machine.proofs.Ticking.{Prepared, pick-chosen, next-moved, advance-none, advance-found, advance-inside, advance-room, advance-work}
 use Rattle.machine.proofs.Course.{sum-worked, all-sum, sum-all, none-done, after-next, after-settled, pick-settled, Going, going, idle-early}
 
 -- ---- completions, one tick more
@@ -75,7 +77,6 @@ abbrev pub lastRelease : ℕ
 lastRelease = maxRelease + maxJobs * maxTime
 
 nothing-done : (n : ℕ) → _≡_ {A = ℕ} (sumOf (replicate maxJobs 0) n) 0
-unfolding sumOf
 nothing-done n = sum-zero n (λ i. getD (replicate maxJobs 0) i 0) (λ i l. none-done maxJobs i)
 
 pub record Reached (js : List Job) (times work : List ℕ) (left time : ℕ) : Type 0 where
@@ -101,7 +102,7 @@ module _ (js : List Job) (times : List ℕ) (passed : machineCheck js times ≡ 
   goes = going t times lastRelease few-jobs released-by
 
   pub work-limit : sumOf times (length js) ≤ maxJobs * maxTime
-  work-limit = omega (arith, sum-limit times (times-brief js times passed) (length js) (omega (arith, times-each js times passed)), few-jobs)
+  work-limit = omega (arith, sum-limit times (times-brief js times passed .1) (length js) (omega (arith, times-each js times passed)), few-jobs)
 
   pub reached-start : (left : ℕ) → left ≡ sumOf times (length times) → Reached js times (replicate maxJobs 0) left 0
   unfolding after
@@ -172,8 +173,7 @@ module _ (js : List Job) (times : List ℕ) (passed : machineCheck js times ≡ 
   module _ {work : List ℕ} {left time : ℕ} (r : Reached js times work left time) (more : 0 < left) (q : pick t times (stateOf time work) ≡ idle) (b : ℕ)
       (apart : (u : ℕ) → u < length js → time < t .earliest u → b ≤ t .earliest u) where
     still : (d : ℕ) → time + d < b → pick t times (stateOf (time + d) work) ≡ idle
-    unfolding pick
-    still d l = pick-same t times work time b apart (time + d) (omega arith) l (length js) (omega arith) ∙ q
+    still d l = pick-same t times work time b apart (time + d) (omega arith) l ∙ q
 
     reached-on : (d : ℕ) → time + d ≤ b → Reached js times work left (time + d)
     reached-on zero l = rw (add-zero time) r
@@ -237,17 +237,17 @@ run-refused js times r e = rw e
 
 -- ---- a turn of the loop, after the scan over the set's columns
 pub record Turn (set : JobSet) (columns : Columns) (times work : List ℕ) (left time : ℕ) (best : Best) : Type 0 where
-  pub prepared : Prepared (jobsOf set) columns times
+  pub prepared : Prepared set columns times
   pub reached : Reached (jobsOf set) times work left time
   pub more : 0 < left
-  pub scanned : best ≡ bestOf (seen (columns .chain) (columns .urgency) (columns .release)) (pickUpTo (seen (columns .chain) (columns .urgency) (columns .release)) times (stateOf time work) (set .count))
+  pub scanned : best ≡ bestUpTo (seen (columns .chain) (columns .urgency) (columns .release)) times (stateOf time work) (set .count)
 
 module _ {set : JobSet} {columns : Columns} {times work : List ℕ} {left time : ℕ} {best : Best} (turn : Turn set columns times work left time best) where
   abbrev js : List Job
   js = jobsOf set
 
   abbrev passed : machineCheck js times ≡ Passed
-  passed = turn .prepared .checked
+  passed = turn .prepared .0
 
   pub turn-early : time < lastTime
   turn-early = reached-early js times passed (turn .reached) (turn .more)
@@ -287,12 +287,12 @@ module _ {set : JobSet} {columns : Columns} {times work : List ℕ} {left time :
 
       none-before : (u : ℕ) → u < length js → time < tableOf js .earliest u → later ≤ tableOf js .earliest u
       none-before u l after =
-          let shown = turn .prepared .shown .release u l in
+          let shown = turn .prepared .1 .release u (omega (arith, length-jobs set)) in
           omega (
             arith,
             time-idle (λ i. getD (columns .release) i 0) time (set .count) (best .found) later f e,
             shown,
-            next-le (λ i. getD (columns .release) i 0) time (set .count) u (omega (arith, length-jobs set)) (omega (arith, shown)),
+            next-le lastTime (λ i. getD (columns .release) i 0) time (set .count) u (omega (arith, length-jobs set)) (omega (arith, shown)),
           )
 
       pub idle-reached : Reached js times work left later

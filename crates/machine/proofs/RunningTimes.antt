@@ -17,7 +17,7 @@ use Rattle.jobs.specs.declared.set.JobSet.{JobSet}
 use Rattle.jobs.specs.declared.refusal.Refusal.the-variants.{RunningTimes}
 use Rattle.jobs.specs.declared.refusal.Check.{Check}
 use Rattle.jobs.specs.declared.refusal.Check.the-variants.{Passed, Refused}
-use Rattle.jobs.specs.Limits.{maxTime}
+use Rattle.jobs.specs.Limits.{maxJobs, maxTime}
 use Rattle.jobs.specs.Refusals.{unless, andThen}
 use Rattle.jobs.specs.Jobs.{noJob, jobsOf, jobAt}
 use Rattle.jobs.specs.Checks.{checkOf}
@@ -26,21 +26,22 @@ use Rattle.jobs.proofs.Sets.{length-jobs, job-at}
 use Rattle.theory.specs.Table.{tableOf}
 use Rattle.theory.specs.Runs.{timeAt, Times}
 use Rattle.machine.specs.Times.{inRange, timesFit, machineCheck}
-use Rattle.machine.specs.Private.{Brief, sumOf}
 use Rattle.machine.proofs.Every.{every-at, every-not}
 
 -- ---- sums
+abbrev pub sumOf : List ℕ → ℕ → ℕ
+sumOf numbers n = sumBelow n (λ i. getD numbers i 0)
+
 pub sum-none : (numbers : List ℕ) → sumOf numbers 0 ≡ 0
-unfolding sumOf sumBelow
+unfolding sumBelow
 sum-none numbers = refl
 
 pub sum-next : (numbers : List ℕ) (n sum : ℕ) → sum ≡ sumOf numbers n → sum + getD numbers n 0 ≡ sumOf numbers (n + 1)
-unfolding sumOf sumBelow
+unfolding sumBelow
 sum-next numbers n sum e = rw (add-one, e)
 
-pub sum-limit : (times : List ℕ) → Brief times → (n : ℕ) → n ≤ length times → sumOf times n ≤ n * maxTime
-unfolding sumOf
-sum-limit times b n l = sum-const n maxTime (λ i. getD times i 0) (λ i m. b .each i (omega arith))
+pub sum-limit : (times : List ℕ) → ((i : ℕ) → i < length times → getD times i 0 ≤ maxTime) → (n : ℕ) → n ≤ length times → sumOf times n ≤ n * maxTime
+sum-limit times each n l = sum-const n maxTime (λ i. getD times i 0) (λ i m. each i (omega arith))
 
 -- ---- the check, place by place
 module _ (set : JobSet) (times : List ℕ) where
@@ -127,12 +128,11 @@ module _ (js : List Job) (times : List ℕ) where
     pub time-most : (u : ℕ) → u < length js → getD times u 0 ≤ jobAt js u .most
     time-most u l = leb-true _ _ (and-right (leb (jobAt js u .least) (getD times u 0)) (leb (getD times u 0) (jobAt js u .most)) (unfold inRange in range-at u l))
 
-    pub times-brief : Brief times
-    times-brief =
-        record {
-          few = omega (arith, times-each, set-accepted .few);
-          each = λ i l. omega (arith, time-most i (omega (arith, times-each)), set-accepted .limits i (omega (arith, times-each)) .time);
-        }
+    pub times-brief : (length times ≤ maxJobs) × ((i : ℕ) → i < length times → getD times i 0 ≤ maxTime)
+    times-brief = (
+      omega (arith, times-each, set-accepted .few),
+      λ i l. omega (arith, time-most i (omega (arith, times-each)), set-accepted .limits i (omega (arith, times-each)) .time),
+    )
 
     -- the running times of demand 3
     pub times-in-range : Times (tableOf js) times

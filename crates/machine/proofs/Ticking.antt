@@ -1,13 +1,13 @@
 -- One tick: what the scan over columns finds, and the three ways that a tick can go. Assumes nothing.
 use Prim.Native.Nat.{ℕ, _≤_, _<_}
-use mathlib.Core.Path.{_≡_, refl, sym, ap, subst, _∙_}
-use mathlib.Core.Bool.{Bool, true, false, _&&_}
+use mathlib.Core.Path.{_≡_, refl, sym, ap, _∙_}
+use mathlib.Core.Bool.{Bool, true, false, cond, _&&_}
 use mathlib.Core.List.{List, []}
 use native.Mathlib.Omega.{arith}
 use lib.Dec.{leb}
 use lib.ListN.{length, getD}
 use borrow.Author.Tests.{leb-true, lt-leb, le-leb}
-use Rattle.laws.proofs.Tests.{both-ways, and-left, and-right}
+use Rattle.laws.proofs.Tests.{and-left, and-right}
 use Rattle.jobs.specs.declared.job.Job.{Job}
 use Rattle.jobs.specs.declared.set.JobSet.{JobSet}
 use Rattle.jobs.specs.declared.refusal.Refusal.{Refusal}
@@ -19,6 +19,7 @@ use Rattle.jobs.specs.Jobs.{noJob, jobsOf, jobAt}
 use Rattle.jobs.proofs.Sets.{length-jobs, job-at}
 use Rattle.theory.specs.Table.{Table, tableOf}
 use Rattle.theory.specs.Runs.{Entry, idle, runs}
+use Rattle.theory.proofs.Columns.{seen, Alike}
 use Rattle.machine.specs.declared.state.State.{State}
 use Rattle.machine.specs.declared.columns.Columns.{Columns}
 use Rattle.machine.specs.declared.pick.Best.{Best}
@@ -26,48 +27,43 @@ use Rattle.machine.specs.declared.step.Ticked.the-variants.{Ran, Idle, F
 use Rattle.laws.specs.Words.{everyBelow}
 use Rattle.machine.specs.States.{lastTime, complete, ready, allComplete}
 use Rattle.machine.specs.Times.{machineCheck}
-use Rattle.machine.specs.Pick.{pickUpTo, pick, bestOf}
-use Rattle.machine.specs.Steps.{moved, next, tickOf, possible, stateCheck, stepCheck, stepOf}
-use Rattle.machine.specs.Private.{seen, Shown, Prepared}
+use Rattle.machine.specs.Pick.{bestUpTo, pick}
+use Rattle.machine.specs.Steps.{moved, next, tickOf, possible, stateCheck, stepOf}
 use Rattle.machine.proofs.Every.{every-not, every-at, every-ext}
-use Rattle.machine.proofs.Readiness.{Alike, predecessor-bare, predecessor-alike, ready-parts, complete-ne}
+use Rattle.machine.proofs.Readiness.{predecessor-bare, predecessor-alike, ready-parts, complete-ne}
 use Rattle.machine.proofs.RunningTimes.{set-accepted, times-each}
-use Rattle.machine.proofs.Picks.{Chosen, picked, pick-alike}
+use Rattle.machine.proofs.Picks.{Chosen, Picked, none, one, picked-up-to, best-alike}
 
 -- ---- the scan
-pub best-found : (t : Table) (e : Entry) (best : Best) → best ≡ bestOf t e → best .found ≡ true → e ≡ runs (best .at)
-best-found t idle best q h = absurd (both-ways h (ap (λ (b : Best). b .found) q))
-best-found t (runs u) best q h = ap runs (sym (ap (λ (b : Best). b .at) q))
+module _ {a t : Table} {n : ℕ} (h : Alike a t n) (whole : t .count ≡ n) (times : List ℕ) (s : State) (best : Best) (e : best ≡ bestUpTo a times s n) where
+  scanned : best ≡ bestUpTo t times s (t .count)
+  scanned = e ∙ best-alike h times s n (omega arith) ∙ ap (bestUpTo t times s) (sym whole)
 
-pub best-none : (t : Table) (e : Entry) (best : Best) → best ≡ bestOf t e → best .found ≡ false → e ≡ idle
-best-none t idle best q h = refl
-best-none t (runs u) best q h = absurd (both-ways (ap (λ (b : Best). b .found) q) h)
-
-pub shown-alike : {t : Table} {columns : Columns} {n : ℕ} → Shown t columns n → Alike (seen (columns .chain) (columns .urgency) (columns .release)) t n
-shown-alike h = record { chain = h .chain; urgency = h .urgency; release = h .release }
-
-module _ {t : Table} {columns : Columns} {n : ℕ} (h : Shown t columns n) (whole : t .count ≡ n) (times : List ℕ) (s : State) where
-  abbrev columnTable : Table
-  columnTable = seen (columns .chain) (columns .urgency) (columns .release)
-
-  scan-pick : pickUpTo columnTable times s n ≡ pick t times s
+  pub scan-found : best .found ≡ true → pick t times s ≡ runs (best .at)
   unfolding pick
-  scan-pick = pick-alike (shown-alike h) times s n (omega arith) ∙ ap (pickUpTo t times s) (sym whole)
+  scan-found f = rw (← scanned, f)
 
-  module _ (best : Best) (e : best ≡ bestOf columnTable (pickUpTo columnTable times s n)) where
-    pub scan-found : best .found ≡ true → pick t times s ≡ runs (best .at)
-    scan-found f = sym scan-pick ∙ best-found columnTable (pickUpTo columnTable times s n) best e f
-
-    pub scan-none : best .found ≡ false → pick t times s ≡ idle
-    scan-none f = sym scan-pick ∙ best-none columnTable (pickUpTo columnTable times s n) best e f
+  pub scan-none : best .found ≡ false → pick t times s ≡ idle
+  unfolding pick
+  scan-none f = rw (← scanned, f)
 
 -- ---- the pick
 module _ (t : Table) (times : List ℕ) (s : State) where
   pub pick-chosen : (u : ℕ) → pick t times s ≡ runs u → Chosen t times s (t .count) u
-  pick-chosen u e = rw e at (picked t times s)
+  unfolding pick
+  pick-chosen u = by-picked (bestUpTo t times s (t .count)) (picked-up-to t times s (t .count))
+    where
+      by-picked : (best : Best) → Picked t times s (t .count) best → cond (best .found) (runs (best .at)) idle ≡ runs u → Chosen t times s (t .count) u
+      by-picked best (none f h) e = let q : idle ≡ runs u = rw f at e in let z : _≡_ {A = ℕ} 0 1 = cc in absurd (omega arith)
+      by-picked best (one f p c h) e = let q : runs (best .at) ≡ runs u = rw f at e in let same : best .at ≡ u = cc in rw same at h
 
   pub pick-none : pick t times s ≡ idle → (k : ℕ) → k < t .count → ready t times s k ≡ false
-  pick-none e = rw e at (picked t times s)
+  unfolding pick
+  pick-none = by-picked (bestUpTo t times s (t .count)) (picked-up-to t times s (t .count))
+    where
+      by-picked : (best : Best) → Picked t times s (t .count) best → cond (best .found) (runs (best .at)) idle ≡ idle → (k : ℕ) → k < t .count → ready t times s k ≡ false
+      by-picked best (none f h) e = h
+      by-picked best (one f p c h) e = let q : runs (best .at) ≡ idle = rw f at e in let z : _≡_ {A = ℕ} 0 1 = cc in absurd (omega arith)
 
   pub pick-open : (u : ℕ) → pick t times s ≡ runs u → complete times (s .work) u ≡ false
   pick-open u e = ready-parts t times s u (pick-chosen u e .is-ready) .unfinished
@@ -101,29 +97,29 @@ module _ (js : List Job) (times : List ℕ) (s : State) where
   tick-idle e h = rw (h, e)
 
 -- ---- number 11
-module _ {t : Table} {columns : Columns} {n : ℕ} (h : Shown t columns n) (whole : t .count ≡ n) (times : List ℕ) (s : State) where
-  possible-alike : (u : ℕ) → u < n → possible (seen (columns .chain) [] (columns .release)) times s u ≡ possible t times s u
+pub state-late : (t : Table) (times : List ℕ) (s : State) → lastTime < s .time → stateCheck t times s ≡ Refused ImpossibleState
+unfolding stateCheck
+state-late t times s l = rw (lt-leb (s .time) lastTime l)
+
+module _ (chain urgency release : List ℕ) {t : Table} {n : ℕ} (h : Alike (seen chain urgency release) t n) (whole : t .count ≡ n) (times : List ℕ) (s : State) where
+  possible-alike : (u : ℕ) → u < n → possible (seen chain [] release) times s u ≡ possible t times s u
   unfolding possible
   possible-alike u l =
       rw (
-        predecessor-bare (columns .chain) (columns .urgency) (columns .release) times (s .work) u,
-        predecessor-alike (shown-alike h) times (s .work) u l,
+        predecessor-bare chain urgency release times (s .work) u,
+        predecessor-alike h times (s .work) u l,
         h .release u l,
       )
 
-  all-possible : everyBelow n (possible (seen (columns .chain) [] (columns .release)) times s) ≡ everyBelow (t .count) (possible t times s)
+  all-possible : everyBelow n (possible (seen chain [] release) times s) ≡ everyBelow (t .count) (possible t times s)
   all-possible = every-ext _ (possible t times s) n possible-alike ∙ ap (λ (k : ℕ). everyBelow k (possible t times s)) (sym whole)
 
-  pub state-late : lastTime < s .time → stateCheck t times s ≡ Refused ImpossibleState
-  unfolding stateCheck
-  state-late l = rw (lt-leb (s .time) lastTime l)
-
-  pub state-impossible : s .time ≤ lastTime → everyBelow n (possible (seen (columns .chain) [] (columns .release)) times s) ≡ false
+  pub state-impossible : s .time ≤ lastTime → everyBelow n (possible (seen chain [] release) times s) ≡ false
       → stateCheck t times s ≡ Refused ImpossibleState
   unfolding stateCheck
   state-impossible l e = rw (le-leb (s .time) lastTime l, ← all-possible, e)
 
-  pub state-passes : s .time ≤ lastTime → everyBelow n (possible (seen (columns .chain) [] (columns .release)) times s) ≡ true
+  pub state-passes : s .time ≤ lastTime → everyBelow n (possible (seen chain [] release) times s) ≡ true
       → stateCheck t times s ≡ Passed
   unfolding stateCheck
   state-passes l e = rw (le-leb (s .time) lastTime l, ← all-possible, e)
@@ -147,29 +143,30 @@ module _ (t : Table) (times : List ℕ) (s : State) (passed : stateCheck t times
       (every-at (possible t times s) (t .count) u l (and-right (leb (s .time) lastTime) (everyBelow (t .count) (possible t times s)) both-passed)))
 
 -- ---- a tick on columns that were made from a set
-module _ (set : JobSet) (columns : Columns) (times : List ℕ) (p : Prepared (jobsOf set) columns times) where
-  pub prepared-shown : Shown (tableOf (jobsOf set)) columns (set .count)
-  prepared-shown = subst (Shown (tableOf (jobsOf set)) columns) (length-jobs set) (p .shown)
+module _ (set : JobSet) (times : List ℕ) (passed : machineCheck (jobsOf set) times ≡ Passed) where
+  pub count-few : set .count ≤ maxJobs
+  count-few = omega (arith, length-jobs set, set-accepted (jobsOf set) times passed .few)
 
-  pub prepared-few : set .count ≤ maxJobs
-  prepared-few = omega (arith, length-jobs set, set-accepted (jobsOf set) times (p .checked) .few)
+  pub count-times : set .count ≤ length times
+  count-times = omega (arith, length-jobs set, times-each (jobsOf set) times passed)
 
-  pub prepared-times : set .count ≤ length times
-  prepared-times = omega (arith, length-jobs set, times-each (jobsOf set) times (p .checked))
+abbrev pub Prepared : JobSet → Columns → List ℕ → Type 0
+Prepared set columns times = (machineCheck (jobsOf set) times ≡ Passed) × Alike (seen (columns .chain) (columns .urgency) (columns .release)) (tableOf (jobsOf set)) (set .count)
 
-  module _ (s : State) (best : Best) (e : best ≡ bestOf (seen (columns .chain) (columns .urgency) (columns .release)) (pickUpTo (seen (columns .chain) (columns .urgency) (columns .release)) times s (set .count))) where
+module _ (set : JobSet) (columns : Columns) (times : List ℕ) (p : Prepared set columns times) where
+  module _ (s : State) (best : Best) (e : best ≡ bestUpTo (seen (columns .chain) (columns .urgency) (columns .release)) times s (set .count)) where
     pub advance-none : best .found ≡ false → pick (tableOf (jobsOf set)) times s ≡ idle
-    advance-none f = scan-none prepared-shown (length-jobs set) times s best e f
+    advance-none f = scan-none (p .1) (length-jobs set) times s best e f
 
     module _ (f : best .found ≡ true) where
       pub advance-found : pick (tableOf (jobsOf set)) times s ≡ runs (best .at)
-      advance-found = scan-found prepared-shown (length-jobs set) times s best e f
+      advance-found = scan-found (p .1) (length-jobs set) times s best e f
 
       pub advance-inside : best .at < set .count
       advance-inside = omega (arith, pick-chosen (tableOf (jobsOf set)) times s (best .at) advance-found .inside, length-jobs set)
 
       pub advance-room : best .at < maxJobs
-      advance-room = omega (arith, advance-inside, prepared-few)
+      advance-room = omega (arith, advance-inside, count-few set times (p .0))
 
       -- with no more work than its running time, the job has work left
       pub advance-work : getD (s .work) (best .at) 0 ≤ getD times (best .at) 0 → getD (s .work) (best .at) 0 < getD times (best .at) 0
@@ -182,20 +179,16 @@ module _ (set : JobSet) (columns : Columns) (times : List ℕ) (p : Prepared (jo
   advance-all s b h = ap (allComplete times (s .work)) (length-jobs set) ∙ h
 
 -- ---- the checks of a step, in their order
-pub prepared-of : (set : JobSet) (columns : Columns) (times : List ℕ) → machineCheck (jobsOf set) times ≡ Passed → Shown (tableOf (jobsOf set)) columns (set .count)
-    → Prepared (jobsOf set) columns times
-prepared-of set columns times p h = record { checked = p; shown = subst (Shown (tableOf (jobsOf set)) columns) (sym (length-jobs set)) h }
-
 module _ (js : List Job) (times : List ℕ) (s : State) where
   pub step-refused : (r : Refusal) → machineCheck js times ≡ Refused r → stepOf js times s ≡ record { ticked = RefusedTick r; state = s }
-  unfolding stepOf stepCheck
+  unfolding stepOf
   step-refused r e = rw e
 
   module _ (passed : machineCheck js times ≡ Passed) where
     pub step-impossible : (r : Refusal) → stateCheck (tableOf js) times s ≡ Refused r → stepOf js times s ≡ record { ticked = RefusedTick r; state = s }
-    unfolding stepOf stepCheck
+    unfolding stepOf
     step-impossible r e = rw (passed, e)
 
     pub step-ticks : stateCheck (tableOf js) times s ≡ Passed → stepOf js times s ≡ tickOf js times s
-    unfolding stepOf stepCheck
+    unfolding stepOf
     step-ticks e = rw (passed, e)

@@ -4,11 +4,12 @@
 --   Written   what holds at the head of the loop
 use Prim.Native.Nat.{ℕ, zero, suc, _+_, _-_, _*_, _≤_, _<_}
 use mathlib.Core.Path.{_≡_, refl, sym, ap, subst, _∙_}
-use mathlib.Core.Bool.{true, false}
+use mathlib.Core.Bool.{true, false, cond, _&&_}
 use mathlib.Core.List.{List, [], _∷_, _++_, append-assoc}
 use native.Mathlib.Omega.{arith}
 use native.Mathlib.Numerals.{add-one}
 use native.Mathlib.Nat.{add-zero, add-suc, zero-add}
+use lib.Dec.{ltb, eqb}
 use lib.ListN.{length, set, drop, length-append}
 use lib.Seq.{take-at, drop-append-add}
 use borrow.Author.Tests.{lt-ltb, lt-leb, le-leb}
@@ -30,8 +31,7 @@ use Rattle.machine.specs.States.{lastTime, allComplete}
 use Rattle.machine.specs.Times.{machineCheck}
 use Rattle.machine.specs.Runs.{after, entry}
 use Rattle.machine.proofs.Spans.{goesOn, extended, on-at, spans-within-twice}
-use Rattle.machine.specs.Traces.{noted, spans, row, rows, roomFor, traceCheck, traced, traceOf, tracedIn}
-use Rattle.machine.specs.Private.{putAt}
+use Rattle.machine.specs.Traces.{noted, spans, row, rows, traceCheck, traced, traceOf, tracedIn}
 use Rattle.machine.proofs.Running.{at-limit, lastRelease, few-jobs, released-by, entry-settled, Reached, reached-settled, reached-limit}
 
 -- ---- four numbers stored one after the other
@@ -90,6 +90,12 @@ pub record Stored (js : List Job) (ss : List Span) (u time : ℕ) (p : Put) : Ty
   pub below : p .entry < p .entries
   pub buffer : (b : List ℕ) → patched (patched b 0 (rows js ss)) (4 * p .entry) (row js (p .span)) ≡ patched b 0 (rows js (extended ss u time))
 
+-- where a tick of the job at u goes in a trace of n entries
+abbrev pub putAt : Span → ℕ → ℕ → ℕ → Put
+putAt last n u time =
+    let on = ltb 0 n && (eqb (last .at) u && eqb (last .to) time) in
+    record { entry = cond on (n - 1) n; entries = cond on n (n + 1); span = record { at = u; from = cond on (last .from) time; to = time + 1 } }
+
 module _ (js : List Job) (u time : ℕ) where
   abbrev new : Span
   new = record { at = u; from = time; to = time + 1 }
@@ -139,17 +145,14 @@ module _ (js : List Job) (u time : ℕ) where
       }
 
   put-none : putAt (latest []) 0 u time ≡ record { entry = 0; entries = 0 + 1; span = new }
-  unfolding putAt
   put-none = refl
 
   put-on : (s : Span) (ss : List Span) → goesOn (s ∷ ss) u time ≡ true
       → putAt s (suc (length ss)) u time ≡ record { entry = suc (length ss) - 1; entries = suc (length ss); span = longer s }
-  unfolding putAt
   put-on s ss h = rw (lt-ltb 0 (suc (length ss)) (omega arith), h)
 
   put-new : (s : Span) (ss : List Span) → goesOn (s ∷ ss) u time ≡ false
       → putAt s (suc (length ss)) u time ≡ record { entry = suc (length ss); entries = suc (length ss) + 1; span = new }
-  unfolding putAt
   put-new s ss h = rw (lt-ltb 0 (suc (length ss)) (omega arith), h)
 
   stored-here : (ss : List Span) → Stored js ss u time (putAt (latest ss) (length ss) u time)
@@ -252,12 +255,12 @@ module _ (js : List Job) (times buffer : List ℕ) where
 
   module _ (passed : machineCheck js times ≡ Passed) where
     pub trace-short : length buffer < 8 * length js → (traceOf js times (length buffer) ≡ RefusedTrace ShortBuffer) × (tracedIn js times buffer ≡ buffer)
-    unfolding traceOf tracedIn traceCheck roomFor
+    unfolding traceOf tracedIn traceCheck
     trace-short l = (rw (passed, lt-leb (8 * length js) (length buffer) l), rw (passed, lt-leb (8 * length js) (length buffer) l))
 
     pub trace-written : 8 * length js ≤ length buffer
         → (traceOf js times (length buffer) ≡ Entries (length (traced js times))) × (tracedIn js times buffer ≡ patched buffer 0 (rows js (traced js times)))
-    unfolding traceOf tracedIn traceCheck roomFor
+    unfolding traceOf tracedIn traceCheck
     trace-written l = (rw (passed, le-leb (8 * length js) (length buffer) l), rw (passed, le-leb (8 * length js) (length buffer) l))
 
 pub traced-length : (js : List Job) (times buffer : List ℕ) → machineCheck js times ≡ Passed → 8 * length js ≤ length buffer

@@ -1,10 +1,10 @@
 -- What is proved of the machine for every accepted set and running times in range, in proofs/Claims under the name that a comment gives.
 -- Assumes nothing.
-use Rattle.laws.specs.Words.{ℕ, _*_, _≤_, _<_, _≡_, cond, _&&_, List, [], _∷_, leb, ltb, length, getD}
+use Rattle.laws.specs.Words.{ℕ, _*_, _≤_, _<_, _≡_, cond, _&&_, List, [], _∷_, leb, ltb, length, getD, tabulate}
 use Rattle.jobs.specs.declared.{job.Job.Job, refusal.Check.Check}
 use Rattle.theory.specs.{Table.tableOf, Bounds.boundAt, Rounds.itr, Runs.Entry, Runs.idle, Runs.runs, Runs.Run}
 use Rattle.machine.specs.declared.{state.State.State, step.Ticked.Ticked, trace.Span.Span}
-use Rattle.machine.specs.{States.lastTime, Times.machineCheck, Steps.tickOf, Runs.entry, Runs.entries, Runs.finish, Runs.completions, Traces.traced}
+use Rattle.machine.specs.{States.lastTime, Times.machineCheck, Steps.tickOf, Runs.entry, Runs.finish, Runs.completions, Traces.traced}
 
 -- A claim about every set and running times that pass the checks 4 to 8.
 abbrev pub EveryMachine : (List Job → List ℕ → Type 0) → Type 0
@@ -24,9 +24,9 @@ pub record FinishedWhen (js : List Job) (times : List ℕ) : Type 0 where
   pub only : (s : State) → tickOf js times s .ticked ≡ Ticked.Finished → AllDone js times s
   pub always : (s : State) → AllDone js times s → tickOf js times s .ticked ≡ Ticked.Finished
 
--- `machine-legal`: the machine's entries are a run of demand 3 at every length, with the effective releases.
+-- `machine-legal`: the entries of the machine's first n ticks are a run of demand 3, for every n, with the effective releases.
 abbrev pub Demanded : List Job → List ℕ → Type 0
-Demanded js times = (n : ℕ) → Run (tableOf js) (tableOf js .earliest) times (entries (tableOf js) times n)
+Demanded js times = (n : ℕ) → Run (tableOf js) (tableOf js .earliest) times (tabulate 0 n (entry (tableOf js) times))
 
 -- `machine-keeps-bounds`: each completion is at or before its ITR bound.
 abbrev pub KeepsBounds : List Job → List ℕ → Type 0

@@ -5,4 +5,3 @@ pub mod Steps
 pub mod Runs
 pub mod Traces
 pub mod Claims
-pub mod Private

@@ -15,10 +15,6 @@ after t times (suc n) = next t times (after t times n)
 unfoldable pub entry : Table → List ℕ → ℕ → Entry
 entry t times n = pick t times (after t times n)
 
--- The entries of the first n ticks: a run in the sense of demand 3.
-unfoldable pub entries : Table → List ℕ → ℕ → List Entry
-entries t times n = tabulate 0 n (entry t times)
-
 -- The end of the last of the first n ticks that ran a job, 0 where none did.
 unfoldable pub completion : Table → List ℕ → ℕ → ℕ → ℕ
 completion t times u zero = 0

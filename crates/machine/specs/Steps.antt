@@ -39,10 +39,8 @@ possible t times s u =
 unfoldable pub stateCheck : Table → List ℕ → State → Check
 stateCheck t times s = unless (leb (s .time) lastTime && everyBelow (t .count) (possible t times s)) Refusal.ImpossibleState Check.Passed
 
--- Numbers 4 to 7, then 8, then 11.
-unfoldable pub stepCheck : List Job → List ℕ → State → Check
-stepCheck js times s = andThen (machineCheck js times) (stateCheck (tableOf js) times s)
-
--- The answer and the state after a tick, or the refusal and the state as it was.
+-- The answer and the state after a tick, or the refusal, of numbers 4 to 7, then 8, then 11, and the state as it was.
 unfoldable pub stepOf : List Job → List ℕ → State → Stepped
-stepOf js times s = onPass (stepCheck js times s) (λ refusal. record { ticked = Ticked.Refused refusal; state = s }) (tickOf js times s)
+stepOf js times s =
+    let check = andThen (machineCheck js times) (stateCheck (tableOf js) times s) in
+    onPass check (λ refusal. record { ticked = Ticked.Refused refusal; state = s }) (tickOf js times s)

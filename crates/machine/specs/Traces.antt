@@ -1,5 +1,5 @@
 -- The trace of a run. Document 01, "A trace lists each longest run of one job as chain, job, from, to". Assumes nothing.
-use Rattle.laws.specs.Words.{ℕ, zero, suc, _*_, Bool, cond, _&&_, List, [], _∷_, _++_, leb, eqb, length, patched}
+use Rattle.laws.specs.Words.{ℕ, zero, suc, _*_, cond, _&&_, List, [], _∷_, _++_, leb, eqb, length, patched}
 use Rattle.jobs.specs.declared.{job.Job.Job, refusal.Refusal.Refusal, refusal.Check.Check}
 use Rattle.jobs.specs.{Refusals.unless, Refusals.onPass, Refusals.andThen, Jobs.jobAt}
 use Rattle.theory.specs.{Table.Table, Table.tableOf, Runs.Entry, Runs.idle, Runs.runs}
@@ -29,13 +29,9 @@ unfoldable pub rows : List Job → List Span → List ℕ
 rows js [] = []
 rows js (s ∷ ss) = rows js ss ++ row js s
 
--- A buffer has room for twice as many entries as there are jobs, of four numbers each.
-unfoldable pub roomFor : List Job → ℕ → Bool
-roomFor js room = leb (8 * length js) room
-
--- Numbers 4 to 8, then 9.
+-- Numbers 4 to 8, then 9: a buffer has to hold twice as many entries as there are jobs, of four numbers each.
 unfoldable pub traceCheck : List Job → List ℕ → ℕ → Check
-traceCheck js times room = andThen (machineCheck js times) (unless (roomFor js room) Refusal.ShortBuffer Check.Passed)
+traceCheck js times room = andThen (machineCheck js times) (unless (leb (8 * length js) room) Refusal.ShortBuffer Check.Passed)
 
 -- The spans of the whole run.
 abbrev pub traced : List Job → List ℕ → List Span

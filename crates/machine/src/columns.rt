@@ -3,7 +3,8 @@ ghost use Rattle.laws.specs.Words.{_≡_, _+_, _<_, _^_};
 ghost use Rattle.jobs.specs.Jobs.{jobsOf};
 ghost use Rattle.jobs.proofs.Accepted.{Accepted};
 ghost use Rattle.theory.specs.Table.{tableOf};
-ghost use Rattle.machine.specs.Private.{Shown, carried};
+ghost use Rattle.theory.proofs.Columns.{seen, Alike};
+ghost use Rattle.theory.proofs.Predecessors.{notBefore};
 use jobs::job::Job;
 use jobs::set::JobSet;
 
@@ -16,7 +17,7 @@ pub struct Columns {
 // The effective release of a job; `last` is the job before it in the table, and `before` that one's effective release.
 fn release_after(last: Job, before: u64, job: Job) -> u64
     requires { ⌜ before + last .least < 2 ^ 64 ⌝ }
-    ensures { λ r. ⌜ r ≡ carried last before job ⌝ }
+    ensures { λ r. ⌜ r ≡ notBefore (last .chain) (job .chain) (job .release) (before + last .least) ⌝ }
 {
     if last.chain == job.chain {
         let earliest = before + last.least;
@@ -30,7 +31,7 @@ fn release_after(last: Job, before: u64, job: Job) -> u64
 // The columns of an accepted set.
 pub(crate) fn columns_of(set: JobSet) -> Columns
     requires { ⌜ Accepted (jobsOf set) ⌝ }
-    ensures { λ r. ⌜ Shown (tableOf (jobsOf set)) r (set .count) ⌝ }
+    ensures { λ r. ⌜ Alike (seen (r .chain) (r .urgency) (r .release)) (tableOf (jobsOf set)) (set .count) ⌝ }
 {
     let mut chain = [0u64; JobSet::MAX_JOBS];
     let mut urgency = [0u64; JobSet::MAX_JOBS];

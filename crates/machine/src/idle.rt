@@ -1,14 +1,14 @@
 // Idle time: while no job is ready, nothing changes before the next release.
-ghost use Rattle.laws.specs.Words.{_≡_, _<_, _≤_, getD};
+ghost use Rattle.laws.specs.Words.{_≡_, _+_, _<_, _≤_, min, cond, ltb, getD};
 ghost use Rattle.jobs.specs.Limits.{maxJobs};
+ghost use Rattle.theory.proofs.NextRelease.{nextRelease};
 ghost use Rattle.machine.specs.States.{lastTime};
-ghost use Rattle.machine.specs.Private.{sooner as Private·sooner, nextRelease, nextTime};
 use crate::state::State;
 use jobs::set::JobSet;
 
 // The earlier of a time and a release, where that is still to come.
 fn sooner(next: u64, release: u64, time: u64) -> u64
-    ensures { λ r. ⌜ r ≡ Private·sooner next release time ⌝ }
+    ensures { λ r. ⌜ r ≡ cond (ltb time release) (min next release) next ⌝ }
 {
     if release <= time {
         return next;
@@ -22,7 +22,7 @@ fn sooner(next: u64, release: u64, time: u64) -> u64
 // The first release of the first count jobs that is still to come.
 fn next_release<'a>(count: usize, release: &'a [u64; JobSet::MAX_JOBS], time: u64) -> u64
     requires { ⌜ count ≤ maxJobs ⌝ }
-    ensures { λ r. ⌜ r ≡ nextRelease (λ i. getD (now (release .entry)) i 0) time count ⌝ }
+    ensures { λ r. ⌜ r ≡ nextRelease lastTime (λ i. getD (now (release .entry)) i 0) time count ⌝ }
 {
     let mut next = State::LAST_TIME;
     let mut n: usize = 0;
@@ -41,7 +41,7 @@ pub(crate) fn next_time<'a>(
     time: u64,
 ) -> u64
     requires { ⌜ (count ≤ maxJobs) × (time < lastTime) ⌝ }
-    ensures { λ r. ⌜ r ≡ nextTime found (λ i. getD (now (release .entry)) i 0) time count ⌝ }
+    ensures { λ r. ⌜ r ≡ cond found (time + 1) (nextRelease lastTime (λ i. getD (now (release .entry)) i 0) time count) ⌝ }
 {
     if found {
         return time + 1;

@@ -1,8 +1,9 @@
 // The pick: of the ready jobs, the one of highest priority and, among equals, of the lowest chain number.
-ghost use Rattle.laws.specs.Words.{_≡_, _<_, _≤_, length};
+ghost use Rattle.laws.specs.Words.{_≡_, _<_, _≤_, cond, length};
 ghost use Rattle.jobs.specs.Limits.{maxJobs};
-ghost use Rattle.machine.specs.Pick.{outranks, pickUpTo, bestOf, better};
-ghost use Rattle.machine.specs.Private.{seen, stateOf, considered};
+ghost use Rattle.theory.proofs.Columns.{seen};
+ghost use Rattle.machine.specs.States.{ready};
+ghost use Rattle.machine.specs.Pick.{outranks, better, bestUpTo};
 use crate::ready::is_ready;
 use jobs::set::JobSet;
 
@@ -56,7 +57,7 @@ fn consider<'a, 'b>(
     time: u64,
 ) -> Best
     requires { ⌜ (at < maxJobs) × (at < length (now times)) ⌝ }
-    ensures { λ r. ⌜ r ≡ considered (seen (now (chain .entry)) (now (urgency .entry)) (now (release .entry))) (now (times .entry)) (stateOf time (now (work .entry))) best at ⌝ }
+    ensures { λ r. let t = seen (now (chain .entry)) (now (urgency .entry)) (now (release .entry)) in ⌜ r ≡ cond (ready t (now (times .entry)) (record { time = time; work = now (work .entry) }) at) (better best at (t .urgency at) (t .chain at)) best ⌝ }
 {
     if !is_ready(at, chain, release, times, work, time) {
         return best;
@@ -64,7 +65,7 @@ fn consider<'a, 'b>(
     better_of(best, at, urgency[at], chain[at])
 }
 
-// The pick of the first count jobs; its parts are carried one by one, which is much faster than to copy the whole.
+// The best of the first count jobs; its parts are carried one by one, which is much faster than to copy the whole.
 pub(crate) fn best_of<'a, 'b>(
     count: usize,
     chain: &'a [u64; JobSet::MAX_JOBS],
@@ -75,7 +76,7 @@ pub(crate) fn best_of<'a, 'b>(
     time: u64,
 ) -> Best
     requires { ⌜ (count ≤ maxJobs) × (count ≤ length (now times)) ⌝ }
-    ensures { λ r. ⌜ r ≡ bestOf (seen (now (chain .entry)) (now (urgency .entry)) (now (release .entry))) (pickUpTo (seen (now (chain .entry)) (now (urgency .entry)) (now (release .entry))) (now (times .entry)) (stateOf time (now (work .entry))) count) ⌝ }
+    ensures { λ r. ⌜ r ≡ bestUpTo (seen (now (chain .entry)) (now (urgency .entry)) (now (release .entry))) (now (times .entry)) (record { time = time; work = now (work .entry) }) count ⌝ }
 {
     let mut found = false;
     let mut at: usize = 0;

@@ -1,8 +1,8 @@
 // Which jobs are ready, from columns of their figures.
 ghost use Rattle.laws.specs.Words.{_≡_, [], _<_, _≤_, length};
 ghost use Rattle.jobs.specs.Limits.{maxJobs};
+ghost use Rattle.theory.proofs.Columns.{seen};
 ghost use Rattle.machine.specs.States.{complete, predecessorComplete, ready, allComplete};
-ghost use Rattle.machine.specs.Private.{seen, stateOf};
 use jobs::set::JobSet;
 
 pub(crate) fn is_complete<'a, 'b>(
@@ -43,7 +43,7 @@ pub(crate) fn is_ready<'a, 'b>(
     time: u64,
 ) -> bool
     requires { ⌜ (at < maxJobs) × (at < length (now times)) ⌝ }
-    ensures { λ r. ⌜ r ≡ ready (seen (now (chain .entry)) [] (now (release .entry))) (now (times .entry)) (stateOf time (now (work .entry))) at ⌝ }
+    ensures { λ r. ⌜ r ≡ ready (seen (now (chain .entry)) [] (now (release .entry))) (now (times .entry)) (record { time = time; work = now (work .entry) }) at ⌝ }
 {
     if time < release[at] {
         return false;

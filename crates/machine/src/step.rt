@@ -3,8 +3,9 @@ ghost use Rattle.laws.specs.Words.{_≡_, [], _<_, _≤_, length, everyBelow};
 ghost use Rattle.jobs.specs.Limits.{maxJobs};
 ghost use Rattle.jobs.specs.Jobs.{jobsOf};
 ghost use Rattle.theory.specs.Table.{tableOf};
+ghost use Rattle.theory.proofs.Columns.{seen, Alike};
+ghost use Rattle.machine.specs.Times.{machineCheck};
 ghost use Rattle.machine.specs.Steps.{possible, stateCheck, stepOf, tickOf};
-ghost use Rattle.machine.specs.Private.{seen, stateOf, Prepared};
 use crate::columns::Columns;
 use crate::columns::columns_of;
 use crate::pick::best_of;
@@ -40,7 +41,7 @@ fn is_possible<'a, 'b>(
     time: u64,
 ) -> bool
     requires { ⌜ (at < maxJobs) × (at < length (now times)) ⌝ }
-    ensures { λ r. ⌜ r ≡ possible (seen (now (chain .entry)) [] (now (release .entry))) (now (times .entry)) (stateOf time (now (work .entry))) at ⌝ }
+    ensures { λ r. ⌜ r ≡ possible (seen (now (chain .entry)) [] (now (release .entry))) (now (times .entry)) (record { time = time; work = now (work .entry) }) at ⌝ }
 {
     if times[at] < work[at] {
         return false;
@@ -64,7 +65,7 @@ fn are_possible<'a, 'b>(
     time: u64,
 ) -> bool
     requires { ⌜ (count ≤ maxJobs) × (count ≤ length (now times)) ⌝ }
-    ensures { λ r. ⌜ r ≡ everyBelow count (possible (seen (now (chain .entry)) [] (now (release .entry))) (now (times .entry)) (stateOf time (now (work .entry)))) ⌝ }
+    ensures { λ r. ⌜ r ≡ everyBelow count (possible (seen (now (chain .entry)) [] (now (release .entry))) (now (times .entry)) (record { time = time; work = now (work .entry) })) ⌝ }
 {
     let mut n: usize = 0;
     while n < count {
@@ -78,7 +79,7 @@ fn are_possible<'a, 'b>(
 
 // Refusal 11: a state that cannot be.
 fn check_state(state: State, set: JobSet, columns: Columns, times: &[u64]) -> Check
-    requires { ⌜ Prepared (jobsOf set) columns (now times) ⌝ }
+    requires { ⌜ (machineCheck (jobsOf set) (now times) ≡ Check.Passed) × Alike (seen (columns .chain) (columns .urgency) (columns .release)) (tableOf (jobsOf set)) (set .count) ⌝ }
     ensures { λ r. ⌜ r ≡ stateCheck (tableOf (jobsOf set)) (now (times .entry)) state ⌝ }
 {
     let chain = columns.chain;
@@ -95,7 +96,7 @@ fn check_state(state: State, set: JobSet, columns: Columns, times: &[u64]) -> Ch
 
 // The tick itself, on a state that has passed.
 fn advance(state: State, set: JobSet, columns: Columns, times: &[u64]) -> Stepped
-    requires { ⌜ Prepared (jobsOf set) columns (now times) × (stateCheck (tableOf (jobsOf set)) (now times) state ≡ Check.Passed) ⌝ }
+    requires { ⌜ ((machineCheck (jobsOf set) (now times) ≡ Check.Passed) × Alike (seen (columns .chain) (columns .urgency) (columns .release)) (tableOf (jobsOf set)) (set .count)) × (stateCheck (tableOf (jobsOf set)) (now times) state ≡ Check.Passed) ⌝ }
     ensures { λ r. ⌜ r ≡ tickOf (jobsOf set) (now (times .entry)) state ⌝ }
 {
     let chain = columns.chain;

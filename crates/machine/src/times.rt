@@ -1,10 +1,9 @@
 // The check of running times, refusal 8, after those of the set.
-ghost use Rattle.laws.specs.Words.{_≡_, _≤_, length};
-ghost use Rattle.jobs.specs.Limits.{maxJobs};
+ghost use Rattle.laws.specs.Words.{ℕ, _≡_, _<_, _≤_, length, getD, sumBelow};
+ghost use Rattle.jobs.specs.Limits.{maxJobs, maxTime};
 ghost use Rattle.jobs.specs.Jobs.{jobsOf};
 ghost use Rattle.theory.specs.Table.{tableOf};
 ghost use Rattle.machine.specs.Times.{timesFit, machineCheck};
-ghost use Rattle.machine.specs.Private.{Brief, sumOf};
 use jobs::check::check;
 use jobs::refusal::Check;
 use jobs::refusal::Refusal;
@@ -48,8 +47,8 @@ pub fn check_times(set: JobSet, times: &[u64]) -> Check
 
 // All running times added up.
 pub(crate) fn total(times: &[u64]) -> u64
-    requires { ⌜ Brief (now times) ⌝ }
-    ensures { λ r. ⌜ r ≡ sumOf (now (times .entry)) (length (now (times .entry))) ⌝ }
+    requires { ⌜ (length (now times) ≤ maxJobs) × ((i : ℕ) → i < length (now times) → getD (now times) i 0 ≤ maxTime) ⌝ }
+    ensures { λ r. ⌜ r ≡ sumBelow (length (now (times .entry))) (λ i. getD (now (times .entry)) i 0) ⌝ }
 {
     let mut sum: u64 = 0;
     let mut n: usize = 0;

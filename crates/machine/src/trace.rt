@@ -1,11 +1,10 @@
 // The trace of the run from time 0, into a lent buffer.
-ghost use Rattle.laws.specs.Words.{_≡_, _*_, _<_, _≤_, length, patched};
+ghost use Rattle.laws.specs.Words.{_≡_, _+_, _-_, _*_, _<_, _≤_, cond, _&&_, ltb, eqb, length, patched};
 ghost use Rattle.jobs.specs.Limits.{maxJobs};
 ghost use Rattle.jobs.specs.Jobs.{jobsOf};
 ghost use Rattle.machine.specs.States.{lastTime};
 ghost use Rattle.machine.specs.Times.{machineCheck};
 ghost use Rattle.machine.specs.Traces.{rows, traced, traceOf, tracedIn};
-ghost use Rattle.machine.specs.Private.{putAt};
 use crate::columns::columns_of;
 use crate::idle::next_time;
 use crate::pick::best_of;
@@ -38,7 +37,7 @@ pub struct Put {
 // The job at a place ran in a tick: the last entry goes on, or a new one begins.
 fn put_at(last: Span, entries: usize, at: usize, time: u64) -> Put
     requires { ⌜ (entries ≤ 2 * maxJobs) × (time < lastTime) ⌝ }
-    ensures { λ r. ⌜ r ≡ putAt last entries at time ⌝ }
+    ensures { λ r. let on = ltb 0 entries && (eqb (last .at) at && eqb (last .to) time) in ⌜ r ≡ record { entry = cond on (entries - 1) entries; entries = cond on entries (entries + 1); span = record { at = at; from = cond on (last .from) time; to = time + 1 } } ⌝ }
 {
     let to = time + 1;
     if 0 < entries {

@@ -1,7 +1,8 @@
 -- A table whose figures stand in columns of numbers, as the code reads them. Assumes nothing.
 use Prim.Native.Nat.{ℕ, suc, _+_, _*_, _≤_, _<_}
-use mathlib.Core.List.{List}
-use lib.ListN.{getD}
+use mathlib.Core.Path.{_≡_}
+use mathlib.Core.List.{List, []}
+use lib.ListN.{length, getD}
 use Rattle.laws.specs.Words.{tabulate, padded}
 use Rattle.jobs.specs.Limits.{maxJobs, maxRelease, maxTime}
 use Rattle.theory.specs.Table.{Table}
@@ -18,6 +19,16 @@ lent count chain urgency most earliest latest =
       earliest = λ i. getD earliest i 0;
       latest = λ i. getD latest i 0;
     }
+
+-- The table of the jobs whose figures the machine reads from columns: it reads no times, and one release of each job.
+abbrev pub seen : List ℕ → List ℕ → List ℕ → Table
+seen chain urgency release = lent (length chain) chain urgency [] release release
+
+-- Two tables agree in the figures that the machine reads of their first n jobs.
+pub record Alike (a b : Table) (n : ℕ) : Type 0 where
+  pub chain : (i : ℕ) → i < n → a .chain i ≡ b .chain i
+  pub urgency : (i : ℕ) → i < n → a .urgency i ≡ b .urgency i
+  pub release : (i : ℕ) → i < n → a .earliest i ≡ b .earliest i
 
 -- A table of as many jobs as a set holds, in order of their chains, with most times and releases in their limits.
 pub record Fit (t : Table) : Type 0 where

@@ -27,6 +27,7 @@ pub mod Verdicts
 pub mod Columns
 pub mod Prior
 pub mod Predecessors
+pub mod NextRelease
 pub mod Ruled
 pub mod Weights
 pub mod Stretches

@@ -54,6 +54,7 @@ use Rattle.lent.specs.Scans.{scanOf}
 use Rattle.jobs.specs.declared.job.Job.{Job}
 use Rattle.lent.specs.declared.scan.Scan.{Scan}
 use Rattle.machine.specs.declared.state.State.{State}
+use Rattle.machine.specs.Pick.{bestUpTo}
 use Rattle.lent.proofs.scan.look_at.Symbol.{name as #look-at}
 use Rattle.lent.proofs.scan.most_urgent.Key.{name as #most-urgent}
 use denote.Struct.Laws as LL
@@ -292,7 +293,7 @@ module _ {M : Type 1} (𝓤 : URA M) (H : Heap 𝓤) (A : Atoms 𝓤) (W : Given
   module _ (𝓣 : Tables 𝓤 H) (known : Triple 𝓤 (𝓣 .C #look-at) (Look 𝓤 H A at-mem run)) where
     walk : Is (ShrSlice (named 0) κ J.the-row) js (vj ∷ []) → Is (ShrSlice (named 1) κ₁ u64) ts (vt ∷ [])
         → ent 𝓤 (onEntry 𝓤 H A most-urgent.signature (κ, (κ₁, tt)) (q, (q₁, tt)) x at) (WpFn 𝓤 H (𝓣 .C) (𝓣 .Λ) code.function (vj ∷ vt ∷ LL.val S.the-type S′.the-laws s ∷ []) Post)
-    unfolding scanOf
+    unfolding scanOf bestUpTo
     walk pj pt =
         qed W ((‵ (flft κ q) ⊛ ‵ (flft κ₁ q₁) ⊛ ‵ ftrue) ∷ ‵ (owns (ShrSlice (named 0) κ J.the-row ∷ ShrSlice (named 1) κ₁ u64 ∷ S.the-row ∷ []) x at) ∷ []) ∵
         enter ! (𝓣 .C) (𝓣 .Λ) code.function (vj ∷ vt ∷ LL.val S.the-type S′.the-laws s ∷ []) _ $

@@ -6,12 +6,12 @@ use borrow.Author.Needs.{needs}
 use Rattle.jobs.specs.Limits.{maxJobs}
 use Rattle.jobs.specs.Jobs.{jobsOf}
 use Rattle.jobs.proofs.Sets.{length-jobs, job-at}
-use Rattle.machine.proofs.Figures.{Filled, columnsOf, filled-start, filled-fits, filled-next, filled-end}
+use Rattle.machine.proofs.Figures.{Filled, filled-start, filled-fits, filled-next, filled-end}
 use Rattle.machine.proofs.columns.columns_of.Statement.{statement}
 use Rattle.machine.proofs.columns.columns_of.Tie as tie
 
 abbrev Inv-loop : tie.InvT-loop
-Inv-loop set chain₀ urgency₀ release₀ count last₀ before₀ n₀ chain urgency release last before n = Filled (jobsOf set) n last before (columnsOf chain urgency release)
+Inv-loop set chain₀ urgency₀ release₀ count last₀ before₀ n₀ chain urgency release last before n = Filled (jobsOf set) n last before chain urgency release
 
 abbrev μ-loop : tie.MeasureT-loop
 μ-loop set chain₀ urgency₀ release₀ count last₀ before₀ n₀ chain urgency release last before n = count - n
@@ -20,7 +20,7 @@ none-requires : tie.Need-none-requires Inv-loop μ-loop
 none-requires c κs = search needs
 
 loop-holds : tie.Need-loop-holds Inv-loop μ-loop
-loop-holds c = filled-start (jobsOf (c .before .args .t1)) (c .before .pre) _ refl refl refl _ (c .none .ensures)
+loop-holds c = filled-start (jobsOf (c .before .args .t1)) (c .before .pre) _ _ _ refl refl refl _ (c .none .ensures)
 
 -- a set has no more jobs than places
 few : (n : tie.After-none Inv-loop μ-loop) → n .before .args .t1 .count ≤ maxJobs

@@ -1,24 +1,25 @@
--- `best_of` meets its contract. The loop's invariant: the best is the pick of the first n jobs. Assumes nothing.
+-- `best_of` meets its contract. The loop's invariant: the best is that of the first n jobs. Assumes nothing.
 use Prim.Native.Nat.{_≤_, _-_}
 use mathlib.Core.Path.{_≡_, refl, _∙_}
 use native.Mathlib.Omega.{arith}
 use borrow.Author.Needs.{needs}
-use Rattle.machine.specs.Pick.{pickUpTo, bestOf}
-use Rattle.machine.specs.Private.{seen, stateOf}
-use Rattle.machine.proofs.Picks.{considered-next}
+use Rattle.theory.proofs.Columns.{seen}
+use Rattle.machine.specs.Pick.{bestUpTo}
+use Rattle.machine.proofs.Readiness.{stateOf}
+use Rattle.machine.proofs.Picks.{best-step}
 use Rattle.machine.proofs.pick.best_of.Statement.{statement}
 use Rattle.machine.proofs.pick.best_of.Tie as tie
 
 abbrev Inv-loop : tie.InvT-loop
 Inv-loop count chain urgency release times work time found₀ at₀ best-urgency₀ best-chain₀ n₀ found at best-urgency best-chain n =
     (n ≤ count)
-    × (record { found = found; at = at; urgency = best-urgency; chain = best-chain } ≡ bestOf (seen chain urgency release) (pickUpTo (seen chain urgency release) times (stateOf time work) n))
+    × (record { found = found; at = at; urgency = best-urgency; chain = best-chain } ≡ bestUpTo (seen chain urgency release) times (stateOf time work) n)
 
 abbrev μ-loop : tie.MeasureT-loop
 μ-loop count chain urgency release times work time found₀ at₀ best-urgency₀ best-chain₀ n₀ found at best-urgency best-chain n = count - n
 
 loop-holds : tie.Need-loop-holds Inv-loop μ-loop
-unfolding pickUpTo
+unfolding bestUpTo
 loop-holds c = (omega arith, refl)
 
 consider-requires : tie.Need-consider-requires Inv-loop μ-loop
@@ -31,7 +32,7 @@ loop-less : tie.Need-loop-less Inv-loop μ-loop
 loop-less c = search needs
 
 loop-again : tie.Need-loop-again Inv-loop μ-loop
-loop-again c = (omega arith, c .consider .ensures ∙ considered-next _ _ _ _ _ (c .before .before .loop .inv .1))
+loop-again c = (omega arith, c .consider .ensures ∙ best-step _ _ _ _ _ (c .before .before .loop .inv .1))
 
 returns : tie.Need-returns Inv-loop μ-loop
 returns c = let e : c .before .loop .n ≡ c .before .before .before .args .count = omega arith in rw e at (c .before .loop .inv .1)

@@ -2,8 +2,7 @@
 use mathlib.Core.Path.{sym, _∙_}
 use borrow.Author.Tests.{not-true, not-false}
 use borrow.Author.Needs.{needs}
-use Rattle.machine.specs.Private.{stateOf, considered}
-use Rattle.machine.proofs.Readiness.{ready-seen}
+use Rattle.machine.proofs.Readiness.{stateOf, ready-seen}
 use Rattle.machine.proofs.pick.consider.Statement.{statement}
 use Rattle.machine.proofs.pick.consider.Tie as tie
 
@@ -11,7 +10,6 @@ is-ready-requires : tie.Need-is-ready-requires
 is-ready-requires c κs = search needs
 
 returns : tie.Need-returns
-unfolding considered
 returns c = let a = c .before .before .before .args in simp (sym (ready-seen (a .chain .now) (a .urgency .now) (a .release .now) (a .times .now) (stateOf (a .time) (a .work .now)) (a .at)) ∙ sym (c .before .is-ready .ensures) ∙ not-true _ (c .if1 .taken))
 
 mul-better-of : tie.Need-mul-better-of
@@ -30,7 +28,6 @@ better-of-requires : tie.Need-better-of-requires
 better-of-requires c κs = search needs
 
 returns-2 : tie.Need-returns-2
-unfolding considered
 returns-2 c = let a = c .before .before .before .before .before .before .args in simp (sym (ready-seen (a .chain .now) (a .urgency .now) (a .release .now) (a .times .now) (stateOf (a .time) (a .work .now)) (a .at)) ∙ sym (c .before .before .before .before .is-ready .ensures) ∙ not-false _ (c .before .before .before .if1 .left)) (c .better-of .ensures)
 
 pub consider-spec : {M : Type 1} → statement M

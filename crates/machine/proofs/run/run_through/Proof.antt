@@ -6,9 +6,8 @@ use borrow.Author.Needs.{needs}
 use denote.Ref.{now}
 use Rattle.jobs.specs.Jobs.{jobsOf}
 use Rattle.machine.specs.States.{lastTime}
-use Rattle.machine.specs.Private.{Prepared}
 use Rattle.machine.proofs.RunningTimes.{set-accepted, times-brief}
-use Rattle.machine.proofs.Ticking.{prepared-of, prepared-few, prepared-times}
+use Rattle.machine.proofs.Ticking.{Prepared, count-few, count-times}
 use Rattle.machine.proofs.Running.{reached-start, reached-finish, Reached, Noted, noted-start, noted-ran, noted-idle, noted-all, run-done, Turn, turn-early, turn-room, turn-work, turn-reached, turn-entry, turn-later, turn-ran, idle-reached, idle-kept}
 use Rattle.machine.proofs.run.run_through.Statement.{statement}
 use Rattle.machine.proofs.run.run_through.Tie as tie
@@ -19,8 +18,8 @@ Inv-loop set times chain urgency release work₀ completions₀ left₀ time₀ 
 abbrev μ-loop : tie.MeasureT-loop
 μ-loop set times chain urgency release work₀ completions₀ left₀ time₀ work completions left time = lastTime - time
 
-prepared : (c : tie.After-columns-of Inv-loop μ-loop) → Prepared (jobsOf (c .before .before .args .set)) (c .columns-of .result) (now (c .before .before .args .times))
-prepared c = prepared-of _ _ _ (c .before .before .pre) (c .columns-of .ensures)
+prepared : (c : tie.After-columns-of Inv-loop μ-loop) → Prepared (c .before .before .args .set) (c .columns-of .result) (now (c .before .before .args .times))
+prepared c = (c .before .before .pre, c .columns-of .ensures)
 
 -- what is known after the scan
 module _ (c : tie.After-best-of Inv-loop μ-loop) where
@@ -46,7 +45,7 @@ loop-holds : tie.Need-loop-holds Inv-loop μ-loop
 loop-holds c = (reached-start _ _ (c .before .before .before .before .before .before .pre) _ (c .total .ensures), noted-start _ _ (c .before .before .before .before .before .before .pre))
 
 best-of-requires : tie.Need-best-of-requires Inv-loop μ-loop
-best-of-requires c κs = (prepared-few _ _ _ (prepared (c .before .before .before .before .before .before .before .before .before .before)), prepared-times _ _ _ (prepared (c .before .before .before .before .before .before .before .before .before .before)))
+best-of-requires c κs = (count-few _ _ (prepared (c .before .before .before .before .before .before .before .before .before .before) .0), count-times _ _ (prepared (c .before .before .before .before .before .before .before .before .before .before) .0))
 
 mul-work : tie.Need-mul-work Inv-loop μ-loop
 mul-work c = omega (arith, turn-room (turn (c .before)) (c .if1 .taken))
@@ -76,7 +75,7 @@ sub-left : tie.Need-sub-left Inv-loop μ-loop
 sub-left c = search needs
 
 next-time-requires : tie.Need-next-time-requires Inv-loop μ-loop
-next-time-requires c κs = let t = turn (c .before .before) in (prepared-few _ _ _ (t .prepared), turn-early t)
+next-time-requires c κs = let t = turn (c .before .before) in (count-few _ _ (t .prepared .0), turn-early t)
 
 loop-less : tie.Need-loop-less Inv-loop μ-loop
 loop-less c = let t = turn (c .before .before .before) in omega (arith, turn-early t, turn-later t _ (c .next-time .ensures))

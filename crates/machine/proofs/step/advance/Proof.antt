@@ -9,7 +9,7 @@ use Rattle.jobs.specs.Limits.{maxJobs}
 use Rattle.jobs.specs.Jobs.{jobsOf}
 use Rattle.jobs.proofs.Sets.{length-jobs}
 use Rattle.theory.specs.Table.{tableOf}
-use Rattle.machine.proofs.Ticking.{passed-early, passed-within, prepared-few, prepared-times, advance-none, advance-room, advance-inside, advance-work, advance-ran, advance-all, tick-finished, tick-idle}
+use Rattle.machine.proofs.Ticking.{passed-early, passed-within, count-few, count-times, advance-none, advance-room, advance-inside, advance-work, advance-ran, advance-all, tick-finished, tick-idle}
 use Rattle.machine.proofs.step.advance.Statement.{statement}
 use Rattle.machine.proofs.step.advance.Tie as tie
 
@@ -28,7 +28,7 @@ module _ (c : tie.After-best-of) (f : c .best-of .result .found ≡ true) where
       (passed-within (tableOf (jobsOf (start .args .t2))) _ (start .args .state) (start .pre .1) _ (omega (arith, length-jobs (start .args .t2))))
 
 best-of-requires : tie.Need-best-of-requires
-best-of-requires c κs = let a = c .before .before .before .before .before .before .before .before .before .args in (prepared-few (a .t2) (a .columns) _ (c .before .before .before .before .before .before .before .before .before .pre .0), prepared-times (a .t2) (a .columns) _ (c .before .before .before .before .before .before .before .before .before .pre .0))
+best-of-requires c κs = let a = c .before .before .before .before .before .before .before .before .before .args in (count-few (a .t2) _ (c .before .before .before .before .before .before .before .before .before .pre .0 .0), count-times (a .t2) _ (c .before .before .before .before .before .before .before .before .before .pre .0 .0))
 
 add-next : tie.Need-add-next
 add-next c = let a = c .before .before .before .before .before .before .before .before .before .before .before .before .args in omega (arith, passed-early (tableOf (jobsOf (a .t2))) _ (a .state) (c .before .before .before .before .before .before .before .before .before .before .before .before .pre .1))
@@ -64,7 +64,7 @@ returns : tie.Need-returns
 returns c = let a = c .before .before .before .before .before .before .before .before .before .before .before .before .args in sym (advance-ran (a .t2) (a .columns) _ (c .before .before .before .before .before .before .before .before .before .before .before .before .pre .0) (a .state) _ (c .before .before .best-of .ensures) (c .before .if1 .taken))
 
 are-complete-requires : tie.Need-are-complete-requires
-are-complete-requires c κs = let a = c .before .before .before .before .before .before .before .before .before .before .before .before .args in (prepared-few (a .t2) (a .columns) _ (c .before .before .before .before .before .before .before .before .before .before .before .before .pre .0), prepared-times (a .t2) (a .columns) _ (c .before .before .before .before .before .before .before .before .before .before .before .before .pre .0))
+are-complete-requires c κs = let a = c .before .before .before .before .before .before .before .before .before .before .before .before .args in (count-few (a .t2) _ (c .before .before .before .before .before .before .before .before .before .before .before .before .pre .0 .0), count-times (a .t2) _ (c .before .before .before .before .before .before .before .before .before .before .before .before .pre .0 .0))
 
 returns-2 : tie.Need-returns-2
 returns-2 c = let a = c .before .before .before .before .before .before .before .before .before .before .before .before .before .before .args in sym (tick-finished (jobsOf (a .t2)) _ (a .state) (advance-all (a .t2) (a .columns) _ (c .before .before .before .before .before .before .before .before .before .before .before .before .before .before .pre .0) (a .state) _ (sym (c .before .are-complete .ensures) ∙ c .if2 .taken)))

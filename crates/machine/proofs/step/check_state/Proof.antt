@@ -2,21 +2,21 @@
 use mathlib.Core.Path.{sym, _∙_}
 use borrow.Author.Tests.{not-true, not-false}
 use Rattle.jobs.proofs.Sets.{length-jobs}
-use Rattle.machine.proofs.Ticking.{state-late, state-impossible, state-passes, prepared-shown, prepared-few, prepared-times}
+use Rattle.machine.proofs.Ticking.{state-late, state-impossible, state-passes, count-few, count-times}
 use Rattle.machine.proofs.step.check_state.Statement.{statement}
 use Rattle.machine.proofs.step.check_state.Tie as tie
 
 returns : tie.Need-returns
-returns c = let a = c .before .before .before .before .before .before .args in sym (state-late (prepared-shown (a .set) (a .columns) _ (c .before .before .before .before .before .before .pre)) (length-jobs (a .set)) _ _ (c .if1 .taken))
+returns c = sym (state-late _ _ _ (c .if1 .taken))
 
 are-possible-requires : tie.Need-are-possible-requires
-are-possible-requires c κs = let a = c .before .before .before .before .before .before .before .before .before .args in (prepared-few (a .set) (a .columns) _ (c .before .before .before .before .before .before .before .before .before .pre), prepared-times (a .set) (a .columns) _ (c .before .before .before .before .before .before .before .before .before .pre))
+are-possible-requires c κs = let a = c .before .before .before .before .before .before .before .before .before .args in (count-few (a .set) _ (c .before .before .before .before .before .before .before .before .before .pre .0), count-times (a .set) _ (c .before .before .before .before .before .before .before .before .before .pre .0))
 
 returns-2 : tie.Need-returns-2
-returns-2 c = let a = c .before .before .before .before .before .before .before .before .before .before .before .args in sym (state-impossible (prepared-shown (a .set) (a .columns) _ (c .before .before .before .before .before .before .before .before .before .before .before .pre)) (length-jobs (a .set)) _ _ (c .before .before .before .before .before .if1 .left) (sym (c .before .are-possible .ensures) ∙ not-true _ (c .if2 .taken)))
+returns-2 c = let a = c .before .before .before .before .before .before .before .before .before .before .before .args in sym (state-impossible (a .columns .chain) (a .columns .urgency) (a .columns .release) (c .before .before .before .before .before .before .before .before .before .before .before .pre .1) (length-jobs (a .set)) _ _ (c .before .before .before .before .before .if1 .left) (sym (c .before .are-possible .ensures) ∙ not-true _ (c .if2 .taken)))
 
 returns-3 : tie.Need-returns-3
-returns-3 c = let a = c .before .before .before .before .before .before .before .before .before .before .before .args in sym (state-passes (prepared-shown (a .set) (a .columns) _ (c .before .before .before .before .before .before .before .before .before .before .before .pre)) (length-jobs (a .set)) _ _ (c .before .before .before .before .before .if1 .left) (sym (c .before .are-possible .ensures) ∙ not-false _ (c .if2 .left)))
+returns-3 c = let a = c .before .before .before .before .before .before .before .before .before .before .before .args in sym (state-passes (a .columns .chain) (a .columns .urgency) (a .columns .release) (c .before .before .before .before .before .before .before .before .before .before .before .pre .1) (length-jobs (a .set)) _ _ (c .before .before .before .before .before .if1 .left) (sym (c .before .are-possible .ensures) ∙ not-false _ (c .if2 .left)))
 
 pub check-state-spec : {M : Type 1} → statement M
 check-state-spec = tie.close (tie.spec returns are-possible-requires returns-2 returns-3)

@@ -3,9 +3,9 @@ use mathlib.Core.List.{[]}
 use mathlib.Core.Path.{_≡_, sym, _∙_}
 use borrow.Author.Tests.{lt-leb, le-leb, eq-eqb, ne-eqb, not-true, not-false}
 use borrow.Author.Needs.{needs}
+use Rattle.theory.proofs.Columns.{seen}
 use Rattle.machine.specs.States.{predecessorComplete}
 use Rattle.machine.specs.Steps.{possible}
-use Rattle.machine.specs.Private.{seen}
 use Rattle.machine.proofs.Readiness.{predecessor-seen}
 use Rattle.machine.proofs.step.is_possible.Statement.{statement}
 use Rattle.machine.proofs.step.is_possible.Tie as tie

@@ -3,7 +3,7 @@ use mathlib.Core.Path.{sym, _∙_}
 use borrow.Author.Needs.{needs}
 use Rattle.jobs.specs.Jobs.{jobsOf}
 use Rattle.machine.proofs.RunningTimes.{set-accepted}
-use Rattle.machine.proofs.Ticking.{prepared-of, step-refused, step-impossible, step-ticks}
+use Rattle.machine.proofs.Ticking.{step-refused, step-impossible, step-ticks}
 use Rattle.machine.proofs.step.step.Statement.{statement}
 use Rattle.machine.proofs.step.step.Tie as tie
 
@@ -23,7 +23,7 @@ columns-of-requires : tie.Need-columns-of-requires
 columns-of-requires c κs = set-accepted (jobsOf (c .before .before .before .before .args .set)) _ (sym (c .before .before .check-times .ensures) ∙ c .enum-told .given .1)
 
 check-state-requires : tie.Need-check-state-requires
-check-state-requires c κs = prepared-of (c .before .before .before .before .before .args .set) _ _ (sym (c .before .before .before .check-times .ensures) ∙ c .before .enum-told .given .1) (c .columns-of .ensures)
+check-state-requires c κs = (sym (c .before .before .before .check-times .ensures) ∙ c .before .enum-told .given .1, c .columns-of .ensures)
 
 enum-known-refusal-2 : tie.Need-enum-known-refusal-2
 enum-known-refusal-2 c = search needs
@@ -35,7 +35,7 @@ enum-told-2 : tie.Need-enum-told-2
 enum-told-2 c = search needs
 
 advance-requires : tie.Need-advance-requires
-advance-requires c κs = (prepared-of (c .before .before .before .before .before .before .before .before .args .set) _ _ (sym (c .before .before .before .before .before .before .check-times .ensures) ∙ c .before .before .before .before .enum-told .given .1) (c .before .before .before .columns-of .ensures), sym (c .before .before .check-state .ensures) ∙ c .enum-told2 .given .1)
+advance-requires c κs = ((sym (c .before .before .before .before .before .before .check-times .ensures) ∙ c .before .before .before .before .enum-told .given .1, c .before .before .before .columns-of .ensures), sym (c .before .before .check-state .ensures) ∙ c .enum-told2 .given .1)
 
 returns-3 : tie.Need-returns-3
 returns-3 c = c .advance .ensures ∙ sym (step-ticks (jobsOf (c .before .before .before .before .before .before .before .before .before .args .set)) _ _ (sym (c .before .before .before .before .before .before .before .check-times .ensures) ∙ c .before .before .before .before .before .enum-told .given .1) (sym (c .before .before .before .check-state .ensures) ∙ c .before .enum-told2 .given .1))

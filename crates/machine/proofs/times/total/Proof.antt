@@ -4,8 +4,7 @@ use mathlib.Core.Path.{_≡_, sym}
 use native.Mathlib.Omega.{arith}
 use lib.ListN.{length}
 use borrow.Author.Needs.{needs}
-use Rattle.machine.specs.Private.{sumOf}
-use Rattle.machine.proofs.RunningTimes.{sum-none, sum-next, sum-limit}
+use Rattle.machine.proofs.RunningTimes.{sumOf, sum-none, sum-next, sum-limit}
 use Rattle.machine.proofs.times.total.Statement.{statement}
 use Rattle.machine.proofs.times.total.Tie as tie
 
@@ -16,7 +15,7 @@ abbrev μ-loop : tie.MeasureT-loop
 μ-loop times sum₀ n₀ sum n = length times - n
 
 loop-holds : tie.Need-loop-holds Inv-loop μ-loop
-loop-holds c = (omega arith, sym (sum-none _))
+loop-holds c = (omega arith, sym (sum-none (c .args .times .now)))
 
 mul-sum : tie.Need-mul-sum Inv-loop μ-loop
 mul-sum c = search needs
@@ -25,7 +24,7 @@ shared-slice-read-sum : tie.Need-shared-slice-read-sum Inv-loop μ-loop
 shared-slice-read-sum c = search needs
 
 add-sum : tie.Need-add-sum Inv-loop μ-loop
-add-sum c = omega (arith, sum-limit _ (c .before .before .before .pre) (c .before .before .loop .n) (c .before .before .loop .inv .0), c .before .before .loop .inv .1, c .before .before .before .pre .each (c .before .before .loop .n) (c .before .loop-test .taken), c .before .before .before .pre .few)
+add-sum c = omega (arith, sum-limit (c .before .before .before .args .times .now) (c .before .before .before .pre .1) (c .before .before .loop .n) (c .before .before .loop .inv .0), c .before .before .loop .inv .1, c .before .before .before .pre .1 (c .before .before .loop .n) (c .before .loop-test .taken), c .before .before .before .pre .0)
 
 add-n : tie.Need-add-n Inv-loop μ-loop
 add-n c = search needs
@@ -34,7 +33,7 @@ loop-less : tie.Need-loop-less Inv-loop μ-loop
 loop-less c = search needs
 
 loop-again : tie.Need-loop-again Inv-loop μ-loop
-loop-again c = (omega arith, sum-next _ _ _ (c .before .before .loop .inv .1))
+loop-again c = (omega arith, sum-next (c .before .before .before .args .times .now) _ _ (c .before .before .loop .inv .1))
 
 returns : tie.Need-returns Inv-loop μ-loop
 returns c = let e : c .before .loop .n ≡ length (c .before .before .args .times .now) = omega arith in rw e at (c .before .loop .inv .1)

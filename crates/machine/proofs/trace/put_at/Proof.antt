@@ -5,7 +5,6 @@ use mathlib.Core.Logic.{⊎-elim}
 use lib.Dec.{eqb}
 use borrow.Author.Tests.{lt-ltb, le-ltb}
 use borrow.Author.Needs.{needs}
-use Rattle.machine.specs.Private.{putAt}
 use Rattle.machine.proofs.trace.put_at.Statement.{statement}
 use Rattle.machine.proofs.trace.put_at.Tie as tie
 
@@ -16,7 +15,6 @@ sub-t10 : tie.Need-sub-t10
 sub-t10 c = search needs
 
 returns : tie.Need-returns
-unfolding putAt
 returns c =
     let a = c .before .before .before .before .args in
     let on : eqb (a .last .at) (a .at) && eqb (a .last .to) (a .time) ≡ true = c .if2 .taken in
@@ -26,7 +24,6 @@ add-t12 : tie.Need-add-t12
 add-t12 c = search needs
 
 returns-2 : tie.Need-returns-2
-unfolding putAt
 returns-2 c = ⊎-elim (λ w. rw (lt-ltb _ _ (w .0 .taken), w .3 .left)) (λ w. rw (le-ltb _ _ (w .left))) (c .if1 .came)
 
 pub put-at-spec : {M : Type 1} → statement M

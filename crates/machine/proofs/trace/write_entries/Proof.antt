@@ -13,11 +13,10 @@ use Rattle.jobs.proofs.Sets.{length-jobs, job-at}
 use Rattle.jobs.specs.declared.job.Job.{Job}
 use Rattle.machine.specs.declared.trace.Put.{Put}
 use Rattle.machine.specs.States.{lastTime}
-use Rattle.machine.specs.Private.{Prepared, putAt}
 use Rattle.machine.proofs.RunningTimes.{set-accepted, times-brief}
-use Rattle.machine.proofs.Ticking.{prepared-of, prepared-few, prepared-times}
+use Rattle.machine.proofs.Ticking.{Prepared, count-few, count-times}
 use Rattle.machine.proofs.Running.{Reached, reached-start, Turn, turn-early, turn-room, turn-inside, turn-work, turn-reached, turn-entry, turn-later, turn-ran, idle-reached, idle-kept}
-use Rattle.machine.proofs.Tracing.{Written, written-start, written-few, written-length, written-idle, put-room, put-few, written-ran, written-count, written-all}
+use Rattle.machine.proofs.Tracing.{putAt, Written, written-start, written-few, written-length, written-idle, put-room, put-few, written-ran, written-count, written-all}
 use Rattle.machine.proofs.trace.write_entries.Statement.{statement}
 use Rattle.machine.proofs.trace.write_entries.Tie as tie
 
@@ -27,8 +26,8 @@ Inv-loop times out₀ set chain urgency release work₀ left₀ last₀ entries�
 abbrev μ-loop : tie.MeasureT-loop
 μ-loop times out₀ set chain urgency release work₀ left₀ last₀ entries₀ time₀ out work left last entries time = lastTime - time
 
-prepared : (c : tie.After-columns-of Inv-loop μ-loop) → Prepared (jobsOf (c .before .before .before .args .t1)) (c .columns-of .result) (now (c .before .before .before .args .times))
-prepared c = prepared-of _ _ _ (c .before .before .before .pre .0) (c .columns-of .ensures)
+prepared : (c : tie.After-columns-of Inv-loop μ-loop) → Prepared (c .before .before .before .args .t1) (c .columns-of .result) (now (c .before .before .before .args .times))
+prepared c = (c .before .before .before .pre .0, c .columns-of .ensures)
 
 wide : (c : tie.Start Inv-loop μ-loop) → 8 * length (jobsOf (c .args .t1)) ≤ length (now (c .args .out))
 wide c = rw length-jobs (c .pre .1)
@@ -65,7 +64,7 @@ loop-holds : tie.Need-loop-holds Inv-loop μ-loop
 loop-holds c = (reached-start _ _ (c .before .before .before .before .before .before .before .pre .0) _ (c .total .ensures), written-start _ _ _)
 
 best-of-requires : tie.Need-best-of-requires Inv-loop μ-loop
-best-of-requires c κs = (prepared-few _ _ _ (prepared (c .before .before .before .before .before .before .before .before .before .before)), prepared-times _ _ _ (prepared (c .before .before .before .before .before .before .before .before .before .before)))
+best-of-requires c κs = (count-few _ _ (prepared (c .before .before .before .before .before .before .before .before .before .before) .0), count-times _ _ (prepared (c .before .before .before .before .before .before .before .before .before .before) .0))
 
 put-at-requires : tie.Need-put-at-requires Inv-loop μ-loop
 put-at-requires c κs = let scan = c .before in (written-few _ _ _ (begun scan .pre .0) (wide (begun scan)) (head scan .loop .inv .1), turn-early (turn scan))
@@ -137,7 +136,7 @@ sub-left : tie.Need-sub-left Inv-loop μ-loop
 sub-left c = search needs
 
 next-time-requires : tie.Need-next-time-requires Inv-loop μ-loop
-next-time-requires c κs = let t = turn (c .before .before) in (prepared-few _ _ _ (t .prepared), turn-early t)
+next-time-requires c κs = let t = turn (c .before .before) in (count-few _ _ (t .prepared .0), turn-early t)
 
 loop-less : tie.Need-loop-less Inv-loop μ-loop
 loop-less c = let t = turn (c .before .before .before) in omega (arith, turn-early t, turn-later t _ (c .next-time .ensures))
