@@ -1,8 +1,7 @@
 // The largest block of one chain.
 ghost use Rattle.laws.specs.Words.{_≡_, cond, ℕ, _+_, _-_, _^_, _≤_, _<_, eqb, getD};
 ghost use Rattle.jobs.specs.Limits.{maxJobs, maxTime};
-ghost use Rattle.theory.proofs.Weights.{weightOf, spanned};
-ghost use Rattle.theory.proofs.Stretches.{opened as Private·opened, largestOver};
+ghost use Rattle.theory.proofs.{Weights.weightOf, Weights.spanned, Stretches.opened as Theory·opened, Stretches.largestOver};
 use crate::number::larger;
 use jobs::set::JobSet;
 
@@ -19,7 +18,7 @@ fn weight(from: u64, to: u64, most: u64, release: u64, bound: u64) -> u64
 // The open block after one more job.
 fn opened(block: u64, target: u64, urgency: u64, weight: u64) -> u64
     requires { ⌜ block + weight < 2 ^ 64 ⌝ }
-    ensures { λ r. ⌜ r ≡ Private·opened block target urgency weight ⌝ }
+    ensures { λ r. ⌜ r ≡ Theory·opened block target urgency weight ⌝ }
 {
     if urgency < target {
         return 0;

@@ -1,10 +1,7 @@
 // The CJA bounds.
 ghost use Rattle.laws.specs.Words.{_≡_, padded};
-ghost use Rattle.jobs.specs.Limits.{maxJobs};
-ghost use Rattle.jobs.specs.Jobs.{jobsOf};
-ghost use Rattle.jobs.specs.Checks.{checkOf};
-ghost use Rattle.theory.specs.Table.{tableOf};
-ghost use Rattle.theory.specs.Bounds.{cja as Theory·cja};
+ghost use Rattle.jobs.specs.{Limits.maxJobs, Jobs.jobsOf, Checks.checkOf};
+ghost use Rattle.theory.specs.{Table.tableOf, Bounds.cja as Theory·cja};
 ghost use Rattle.analysis.specs.Answers.{cjaOf};
 use crate::answer::Bounds;
 use crate::columns::columns_of;

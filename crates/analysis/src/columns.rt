@@ -1,11 +1,8 @@
 // The figures of a set's jobs that the bounds are made from, a column each, with their effective releases.
 ghost use Rattle.laws.specs.Words.{_≡_, cond, _≤_, eqb};
-ghost use Rattle.jobs.specs.declared.refusal.Check.{Check};
-ghost use Rattle.jobs.specs.Jobs.{jobsOf};
-ghost use Rattle.jobs.specs.Checks.{checkOf};
+ghost use Rattle.jobs.specs.{declared.refusal.Check.Check, Jobs.jobsOf, Checks.checkOf};
 ghost use Rattle.theory.specs.Table.{tableOf};
-ghost use Rattle.theory.proofs.Columns.{column};
-ghost use Rattle.theory.proofs.Endings.{Ended};
+ghost use Rattle.theory.proofs.{Columns.column, Endings.Ended};
 use crate::number::larger;
 use crate::predecessor::not_before;
 use jobs::job::Job;

@@ -1,13 +1,9 @@
 // The ERT bounds.
 ghost use Rattle.laws.specs.Words.{_≡_, padded};
-ghost use Rattle.jobs.specs.Limits.{maxJobs};
-ghost use Rattle.jobs.specs.Jobs.{jobsOf};
-ghost use Rattle.jobs.specs.Checks.{checkOf};
-ghost use Rattle.theory.specs.Table.{tableOf};
-ghost use Rattle.theory.specs.Bounds.{ert as Theory·ert};
+ghost use Rattle.jobs.specs.{Limits.maxJobs, Jobs.jobsOf, Checks.checkOf};
+ghost use Rattle.theory.specs.{Table.tableOf, Bounds.ert as Theory·ert};
 ghost use Rattle.analysis.specs.Answers.{ertOf};
-ghost use Rattle.theory.proofs.Columns.{lent, Fit};
-ghost use Rattle.theory.proofs.Endings.{Ended};
+ghost use Rattle.theory.proofs.{Columns.lent, Columns.Fit, Endings.Ended};
 use crate::answer::Bounds;
 use crate::columns::columns_of;
 use crate::interference::interference;

@@ -1,13 +1,9 @@
 // The ITR bounds, and the number of rounds that they take.
 ghost use Rattle.laws.specs.Words.{_≡_, _≤_, padded};
-ghost use Rattle.jobs.specs.Limits.{maxJobs};
-ghost use Rattle.jobs.specs.Jobs.{jobsOf};
-ghost use Rattle.jobs.specs.Checks.{checkOf};
-ghost use Rattle.theory.specs.Table.{tableOf};
-ghost use Rattle.theory.specs.Rounds.{itrStart, sameBounds, itr as Theory·itr};
+ghost use Rattle.jobs.specs.{Limits.maxJobs, Jobs.jobsOf, Checks.checkOf};
+ghost use Rattle.theory.specs.{Table.tableOf, Rounds.itrStart, Rounds.sameBounds, Rounds.itr as Theory·itr};
 ghost use Rattle.analysis.specs.Answers.{itrOf};
-ghost use Rattle.theory.proofs.Columns.{lent, Fit};
-ghost use Rattle.theory.proofs.Endings.{Ended};
+ghost use Rattle.theory.proofs.{Columns.lent, Columns.Fit, Endings.Ended};
 use crate::answer::Itr;
 use crate::columns::columns_of;
 use crate::predecessor::not_before;

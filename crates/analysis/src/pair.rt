@@ -1,8 +1,6 @@
 // The largest sum over the pairs that end with one job.
 ghost use Rattle.laws.specs.Words.{_≡_, _<_};
-ghost use Rattle.theory.proofs.Columns.{lent, Fit};
-ghost use Rattle.theory.proofs.Endings.{Ended};
-ghost use Rattle.theory.proofs.Pairs.{roundAt};
+ghost use Rattle.theory.proofs.{Columns.lent, Columns.Fit, Endings.Ended, Pairs.roundAt};
 use crate::interference::interference;
 use crate::number::larger;
 use crate::number::lower;

@@ -2,8 +2,7 @@
 ghost use Rattle.laws.specs.Words.{_≡_, replicate, padded};
 ghost use Rattle.jobs.specs.Limits.{maxJobs};
 ghost use Rattle.theory.specs.Rounds.{round as Theory·round};
-ghost use Rattle.theory.proofs.Columns.{lent, Fit};
-ghost use Rattle.theory.proofs.Endings.{Ended};
+ghost use Rattle.theory.proofs.{Columns.lent, Columns.Fit, Endings.Ended};
 use crate::pair::largest_pair;
 use jobs::set::JobSet;
 

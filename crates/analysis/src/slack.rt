@@ -1,8 +1,6 @@
 // The slack of each job: its deadline less its ITR bound.
 ghost use Rattle.laws.specs.Words.{_≡_, _≤_, pos, padded};
-ghost use Rattle.jobs.specs.Limits.{maxJobs, maxDeadline};
-ghost use Rattle.jobs.specs.Jobs.{jobsOf};
-ghost use Rattle.jobs.specs.Checks.{checkOf};
+ghost use Rattle.jobs.specs.{Limits.maxJobs, Limits.maxDeadline, Jobs.jobsOf, Checks.checkOf};
 ghost use Rattle.theory.specs.Table.{tableOf};
 ghost use Rattle.theory.specs.Bounds.{boundLimit};
 ghost use Rattle.theory.specs.Rounds.{itr as Theory·itr};

@@ -1,11 +1,9 @@
 -- Answers as C sees them. Document 01, "Programs and the C side". Assumes nothing.
 use Rattle.laws.specs.Words.{ℕ, List, ℤ, pos, negℤ}
-use Rattle.jobs.specs.declared.refusal.Refusal.{Refusal}
-use Rattle.jobs.specs.{Refusals.numberOf, Refusals.onPass, Jobs.jobsOf}
+use Rattle.jobs.specs.{declared.refusal.Refusal.Refusal, Refusals.numberOf, Refusals.onPass, Jobs.jobsOf}
 use Rattle.table.specs.Tables.{readingOf}
 use Rattle.theory.specs.{Table.tableOf, Rounds.itr}
-use Rattle.analysis.specs.declared.answer.Verdict.{Verdict}
-use Rattle.analysis.specs.Answers.{verdictBy}
+use Rattle.analysis.specs.{declared.answer.Verdict.Verdict, Answers.verdictBy}
 use Rattle.report.specs.declared.written.Written.{Written}
 
 -- The number of the refusal, negated.

@@ -1,7 +1,6 @@
 -- A field of a table: a decimal number at the start of a text. Document 01, "A job table". Assumes nothing.
 use Rattle.laws.specs.Words.{ℕ, Bool, false, cond, not, _&&_, List, [], _∷_, leb, eqb, length}
-use Rattle.decimal.specs.Digits.{valueOf}
-use Rattle.decimal.specs.declared.field.Field.{Field}
+use Rattle.decimal.specs.{Digits.valueOf, declared.field.Field.Field}
 
 -- Whether a byte is the code of a digit, 48 for 0 to 57 for 9.
 unfoldable pub isDigit : ℕ → Bool

@@ -1,8 +1,7 @@
 // Writing a number with its sign.
 ghost use Rattle.laws.specs.Words.{_≡_, length, pos, natAbs};
 ghost use lib.Signed.{ltZ};
-ghost use Rattle.decimal.specs.Digits.{signed};
-ghost use Rattle.decimal.specs.Writing.{written, writtenLength};
+ghost use Rattle.decimal.specs.{Digits.signed, Writing.written, Writing.writtenLength};
 use crate::count::digit_count;
 use crate::unsigned::write_unsigned;
 

@@ -1,7 +1,6 @@
 -- Jobs and the sets that hold them. Document 01, "A job table", and "A form for each place". Assumes nothing.
 use Rattle.laws.specs.Words.{ℕ, List, length, getD, tabulate, padded}
-use Rattle.jobs.specs.declared.{job.Job.Job, set.JobSet.JobSet}
-use Rattle.jobs.specs.Limits.{maxJobs}
+use Rattle.jobs.specs.{declared.job.Job.Job, declared.set.JobSet.JobSet, Limits.maxJobs}
 
 -- A job by its numbers and values, in the order of a table's columns.
 abbrev pub job : ℕ → ℕ → ℕ → ℕ → ℕ → ℕ → ℕ → Job

@@ -1,7 +1,6 @@
 // The check of a set handed by value, whatever it holds.
 ghost use Rattle.laws.specs.Words.{_≡_, []};
-ghost use Rattle.jobs.specs.Jobs.{jobsOf};
-ghost use Rattle.jobs.specs.Checks.{recordsCheck, checkOf};
+ghost use Rattle.jobs.specs.{Jobs.jobsOf, Checks.recordsCheck, Checks.checkOf};
 use crate::job::Job;
 use crate::record::check_record;
 use crate::refusal::Check;

@@ -1,9 +1,6 @@
 // A further chain joins a set as its highest-numbered one.
 ghost use Rattle.laws.specs.Words.{_≡_, [], _+_, _≤_, lastOf};
-ghost use Rattle.jobs.specs.Limits.{maxJobs};
-ghost use Rattle.jobs.specs.Jobs.{noJob, jobsOf, setOf};
-ghost use Rattle.jobs.specs.Checks.{recordsCheck};
-ghost use Rattle.jobs.specs.Joins.{renumbered, joinOf};
+ghost use Rattle.jobs.specs.{Limits.maxJobs, Jobs.noJob, Jobs.jobsOf, Jobs.setOf, Checks.recordsCheck, Joins.renumbered, Joins.joinOf};
 use crate::check::check_records;
 use crate::job::Job;
 use crate::record::check_record;

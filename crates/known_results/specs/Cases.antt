@@ -1,8 +1,7 @@
 -- Tables with known results: document 01, P1 to P8, and Tables 1 to 3 of source document 004 for P1. A deadline, priority or least time that it does
 -- not give is chosen here; of runs it gives the rows of P2, a completion of P3 and the end of P4, and the rest is worked out by hand. Assumes nothing.
 use Rattle.laws.specs.Words.{ℕ, Bool, true, false, List, [], _∷_, _++_, map, ℤ, pos, negℤ, length, getD, tabulate}
-use Rattle.jobs.specs.declared.{job.Job.Job, refusal.Check.Check}
-use Rattle.jobs.specs.{Jobs.job, Jobs.jobAt, Checks.checkOf}
+use Rattle.jobs.specs.{declared.job.Job.Job, declared.refusal.Check.Check, Jobs.job, Jobs.jobAt, Checks.checkOf}
 use Rattle.theory.specs.{Table.tableOf, Bounds.boundAt, Bounds.interferenceAt, Bounds.ert, Bounds.cja, Rounds.itr, Verdicts.slacks, Verdicts.meets}
 use Rattle.machine.specs.{Runs.runOf, Traces.rows, Traces.traced}
 

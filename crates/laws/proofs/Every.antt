@@ -1,7 +1,7 @@
--- A test of each place: one place more, a place that fails, all places, and two tests that agree. Nothing here depends on what the test is. Assumes nothing.
+-- A test of each place: one place more, a place that fails, all places, two tests that agree, and the first place that fails. Nothing here depends on what the test is. Assumes nothing.
 use Prim.Native.Nat.{ℕ, zero, suc, _+_, _<_}
-use mathlib.Core.Path.{_≡_, refl, ap, _∙_}
-use mathlib.Core.Bool.{Bool, true, false}
+use mathlib.Core.Path.{_≡_, refl, sym, ap, _∙_}
+use mathlib.Core.Bool.{Bool, true, false, _&&_}
 use native.Mathlib.Omega.{arith}
 use native.Mathlib.Numerals.{add-one}
 use Rattle.laws.specs.Words.{everyBelow}
@@ -35,3 +35,20 @@ pub every-ext : (f g : ℕ → Bool) (n : ℕ) → ((i : ℕ) → i < n → f i 
 unfolding everyBelow
 every-ext f g zero h = refl
 every-ext f g (suc n) h = rw (every-ext f g n (λ i l. h i (omega arith)), h n (omega arith))
+
+-- the first place that fails
+pub record FirstFailing (f : ℕ → Bool) (n : ℕ) : Type 0 where
+  pub place : ℕ
+  pub below : place < n
+  pub fails : f place ≡ false
+  pub holds : (i : ℕ) → i < place → f i ≡ true
+
+pub first-failing : (f : ℕ → Bool) (n : ℕ) → everyBelow n f ≡ false → FirstFailing f n
+unfolding everyBelow
+first-failing f zero h = absurd (both-ways refl h)
+first-failing f (suc n) h =
+    by-test (everyBelow n f)
+    (λ e. record { place = n; below = omega arith; fails = sym (ap (λ (b : Bool). b && f n) e) ∙ h; holds = λ i l. every-at f n i l e })
+    (λ e.
+    let w = first-failing f n e in
+    record { place = w .place; below = omega (arith, w .below); fails = w .fails; holds = w .holds })

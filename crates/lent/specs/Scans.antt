@@ -2,9 +2,8 @@
 use Rattle.laws.specs.Words.{ℕ, zero, suc, _-_, false, List, leb}
 use Rattle.jobs.specs.declared.job.Job.{Job}
 use Rattle.theory.specs.Table.{tableOf}
-use Rattle.machine.specs.declared.state.State.{State}
+use Rattle.machine.specs.{declared.state.State.State, States.complete, Pick.bestUpTo}
 use Rattle.lent.specs.declared.scan.Scan.{Scan}
-use Rattle.machine.specs.{States.complete, Pick.bestUpTo}
 
 -- What a scan of the first n records knows: the best of them, as in a step, and figures of the last record, with 0 ticks since a release still to come.
 unfoldable pub scanOf : List Job → List ℕ → State → ℕ → Scan

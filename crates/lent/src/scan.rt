@@ -3,8 +3,7 @@
 ghost use Rattle.laws.specs.Words.{_≡_, ℕ, suc, _-_, _&&_, List, length, getD, leb, ltb, eqb};
 ghost use Rattle.jobs.specs.Jobs.{jobAt};
 ghost use Rattle.theory.specs.Table.{tableOf};
-ghost use Rattle.machine.specs.States.{ready};
-ghost use Rattle.machine.specs.Pick.{bestUpTo};
+ghost use Rattle.machine.specs.{States.ready, Pick.bestUpTo};
 ghost use Rattle.lent.specs.Scans.{scanOf};
 use jobs::job::Job;
 use machine::pick::Best;

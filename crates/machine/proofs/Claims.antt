@@ -29,7 +29,7 @@ use Rattle.machine.specs.Pick.{pick}
 use Rattle.machine.specs.Steps.{ranAs, tickOf}
 use Rattle.machine.specs.Runs.{entry, completion, finish, completions}
 use Rattle.machine.specs.Claims.{EveryMachine, AllDone, Ends, FinishedWhen, Demanded, KeepsBounds, GivesBack, WithinTwice}
-use Rattle.machine.proofs.Every.{every-at, first-failing}
+use Rattle.laws.proofs.Every.{every-at, first-failing}
 use Rattle.machine.proofs.Readiness.{complete-eq, complete-ne}
 use Rattle.machine.proofs.RunningTimes.{set-passed, set-accepted, times-in-range}
 use Rattle.machine.proofs.Course.{all-sum, going-ends}

@@ -19,7 +19,7 @@ use Rattle.machine.specs.States.{complete, ready, allComplete}
 use Rattle.machine.specs.Pick.{pick}
 use Rattle.machine.specs.Steps.{moved, next}
 use Rattle.machine.specs.Runs.{after}
-use Rattle.machine.proofs.Every.{every-at, first-failing}
+use Rattle.laws.proofs.Every.{every-at, first-failing}
 use Rattle.machine.proofs.RunningTimes.{sumOf}
 use Rattle.machine.proofs.Readiness.{complete-eq, complete-ne, parts-ready, predecessor-all, worked-here, worked-other}
 use Rattle.machine.proofs.Ticking.{pick-chosen, pick-none, pick-open, pick-left, next-moved, next-stays}

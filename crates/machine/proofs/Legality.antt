@@ -20,7 +20,7 @@ use Rattle.machine.specs.States.{complete, predecessorComplete, ready, a
 use Rattle.machine.specs.Pick.{pick}
 use Rattle.machine.specs.Steps.{moved}
 use Rattle.machine.specs.Runs.{after, entry}
-use Rattle.machine.proofs.Every.{every-at}
+use Rattle.laws.proofs.Every.{every-at}
 use Rattle.machine.proofs.Readiness.{complete-eq, eq-complete, ne-complete, ready-parts, parts-ready, predecessor-first, predecessor-next, predecessor-none, worked-here, worked-other}
 use Rattle.machine.proofs.Picks.{Before, before-urgent}
 use Rattle.machine.proofs.Ticking.{pick-chosen, pick-none, next-moved, next-stays}

@@ -1,4 +1,3 @@
-pub mod Every
 pub mod Readiness
 pub mod Picks
 pub mod RunningTimes

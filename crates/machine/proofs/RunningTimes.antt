@@ -26,7 +26,7 @@ use Rattle.jobs.proofs.Sets.{length-jobs, job-at}
 use Rattle.theory.specs.Table.{tableOf}
 use Rattle.theory.specs.Runs.{timeAt, Times}
 use Rattle.machine.specs.Times.{inRange, timesFit, machineCheck}
-use Rattle.machine.proofs.Every.{every-at, every-not}
+use Rattle.laws.proofs.Every.{every-at, every-not}
 
 -- ---- sums
 abbrev pub sumOf : List ℕ → ℕ → ℕ

@@ -29,7 +29,7 @@ use Rattle.machine.specs.States.{lastTime, complete, ready, allComplete}
 use Rattle.machine.specs.Times.{machineCheck}
 use Rattle.machine.specs.Pick.{bestUpTo, pick}
 use Rattle.machine.specs.Steps.{moved, next, tickOf, possible, stateCheck, stepOf}
-use Rattle.machine.proofs.Every.{every-not, every-at, every-ext}
+use Rattle.laws.proofs.Every.{every-not, every-at, every-ext}
 use Rattle.machine.proofs.Readiness.{predecessor-bare, predecessor-alike, ready-parts, complete-ne}
 use Rattle.machine.proofs.RunningTimes.{set-accepted, times-each}
 use Rattle.machine.proofs.Picks.{Chosen, Picked, none, one, picked-up-to, best-alike}

@@ -1,8 +1,7 @@
 -- The pick: which ready job runs. Document 01, "The ready job of highest priority runs; among equals, the lowest chain number". Assumes nothing.
 use Rattle.laws.specs.Words.{ℕ, zero, suc, Bool, true, false, cond, not, _&&_, _||_, List, ltb, eqb}
 use Rattle.theory.specs.{Table.Table, Runs.Entry, Runs.idle, Runs.runs}
-use Rattle.machine.specs.declared.{state.State.State, pick.Best.Best}
-use Rattle.machine.specs.States.{ready}
+use Rattle.machine.specs.{declared.state.State.State, declared.pick.Best.Best, States.ready}
 
 -- A job of urgency p and chain c goes before one of urgency q and chain d.
 unfoldable pub outranks : ℕ → ℕ → ℕ → ℕ → Bool

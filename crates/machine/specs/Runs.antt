@@ -1,7 +1,6 @@
 -- The run from time 0. Document 01, "The machine". Assumes nothing.
 use Rattle.laws.specs.Words.{ℕ, zero, suc, cond, List, replicate, tabulate}
-use Rattle.jobs.specs.declared.job.Job.{Job}
-use Rattle.jobs.specs.{Limits.maxJobs, Refusals.onPass}
+use Rattle.jobs.specs.{declared.job.Job.Job, Limits.maxJobs, Refusals.onPass}
 use Rattle.theory.specs.{Table.Table, Table.tableOf, Runs.Entry, Runs.names}
 use Rattle.machine.specs.declared.{state.State.State, run.Completed.Completed}
 use Rattle.machine.specs.{States.lastTime, States.start, Times.machineCheck, Pick.pick, Steps.next}

@@ -3,8 +3,7 @@ ghost use Rattle.laws.specs.Words.{_≡_, _+_, _<_, _^_};
 ghost use Rattle.jobs.specs.Jobs.{jobsOf};
 ghost use Rattle.jobs.proofs.Accepted.{Accepted};
 ghost use Rattle.theory.specs.Table.{tableOf};
-ghost use Rattle.theory.proofs.Columns.{seen, Alike};
-ghost use Rattle.theory.proofs.Predecessors.{notBefore};
+ghost use Rattle.theory.proofs.{Columns.seen, Columns.Alike, Predecessors.notBefore};
 use jobs::job::Job;
 use jobs::set::JobSet;
 

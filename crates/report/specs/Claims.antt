@@ -1,7 +1,6 @@
 -- What is proved of the texts of every accepted set. Assumes nothing.
 use Rattle.laws.specs.Words.{ℕ, _*_, _≤_, _≡_, List, length}
-use Rattle.jobs.specs.declared.{job.Job.Job, refusal.Check.Check}
-use Rattle.jobs.specs.{Limits.maxJobs, Checks.checkOf}
+use Rattle.jobs.specs.{declared.job.Job.Job, declared.refusal.Check.Check, Limits.maxJobs, Checks.checkOf}
 use Rattle.report.specs.Texts.{boundsText, traceText}
 
 -- The length of the buffers that the programs lend.

@@ -1,10 +1,8 @@
 -- The line that a refusal prints, and what a program prints. Document 01, "Programs and the C side". Assumes nothing.
 use Rattle.laws.specs.Words.{ℕ, List, _++_, ascii}
 use Rattle.decimal.specs.{Digits.decimal, Writing.written, Writing.writtenLength}
-use Rattle.jobs.specs.declared.refusal.Refusal.{Refusal}
-use Rattle.jobs.specs.Refusals.{numberOf}
-use Rattle.report.specs.declared.written.Written.{Written}
-use Rattle.report.specs.Rows.{lineEnd}
+use Rattle.jobs.specs.{declared.refusal.Refusal.Refusal, Refusals.numberOf}
+use Rattle.report.specs.{declared.written.Written.Written, Rows.lineEnd}
 
 -- `refused,` and the number, with CR LF.
 unfoldable pub refusedText : Refusal → List ℕ

@@ -1,8 +1,7 @@
 -- Rows of the bounds text and the trace text. Document 01, "Programs and the C side". Assumes nothing.
 use Rattle.laws.specs.Words.{ℕ, zero, suc, _+_, _*_, List, [], _∷_, _++_, ℤ, pos, getD, ascii}
 use Rattle.decimal.specs.Digits.{decimal, signed}
-use Rattle.jobs.specs.declared.job.Job.{Job}
-use Rattle.jobs.specs.Jobs.{jobAt}
+use Rattle.jobs.specs.{declared.job.Job.Job, Jobs.jobAt}
 
 -- CR LF.
 abbrev pub lineEnd : List ℕ

@@ -1,13 +1,11 @@
 -- Whole texts in a lent buffer. Document 01, "Programs and the C side", and number 9. Assumes nothing.
 use Rattle.laws.specs.Words.{ℕ, cond, List, _++_, map, leb, length, ascii}
 use Rattle.decimal.specs.Writing.{written}
-use Rattle.jobs.specs.declared.{job.Job.Job, refusal.Refusal.Refusal}
-use Rattle.jobs.specs.{Refusals.onPass, Jobs.jobsOf}
+use Rattle.jobs.specs.{declared.job.Job.Job, declared.refusal.Refusal.Refusal, Refusals.onPass, Jobs.jobsOf}
 use Rattle.table.specs.Tables.{readingOf}
 use Rattle.theory.specs.{Table.tableOf, Bounds.ert, Bounds.cja, Rounds.itr, Verdicts.slacks}
 use Rattle.machine.specs.Traces.{rows, traced}
-use Rattle.report.specs.declared.written.Written.{Written}
-use Rattle.report.specs.Rows.{boundsRows, entriesText}
+use Rattle.report.specs.{declared.written.Written.Written, Rows.boundsRows, Rows.entriesText}
 
 -- The first line of the bounds text.
 abbrev pub boundsHeader : List ℕ

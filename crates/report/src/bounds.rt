@@ -2,8 +2,7 @@
 ghost use Rattle.laws.specs.Words.{_≡_, _++_, _≤_};
 ghost use Rattle.decimal.specs.Writing.{written as Decimal·written};
 ghost use Rattle.jobs.specs.Limits.{maxJobs};
-ghost use Rattle.report.specs.Rows.{boundsRows};
-ghost use Rattle.report.specs.Texts.{boundsHeader, boundsText, answerTo, answerFor, leftFor};
+ghost use Rattle.report.specs.{Rows.boundsRows, Texts.boundsHeader, Texts.boundsText, Texts.answerTo, Texts.answerFor, Texts.leftFor};
 use crate::columns::write_bytes;
 use crate::rows::rows_length;
 use crate::rows::write_rows;

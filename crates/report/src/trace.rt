@@ -1,9 +1,7 @@
 // The trace text of a table.
 ghost use Rattle.laws.specs.Words.{_≡_, _++_, _*_, _≤_, length, padded};
 ghost use Rattle.decimal.specs.Writing.{written as Decimal·written};
-ghost use Rattle.jobs.specs.Limits.{maxJobs};
-ghost use Rattle.jobs.specs.Jobs.{jobsOf};
-ghost use Rattle.jobs.specs.Checks.{checkOf};
+ghost use Rattle.jobs.specs.{Limits.maxJobs, Jobs.jobsOf, Checks.checkOf};
 ghost use Rattle.report.specs.Rows.{entriesText};
 ghost use Rattle.report.specs.Texts.{mostTimes, traceHeader, traceText, answerTo, answerFor, leftFor};
 use crate::columns::write_bytes;

@@ -1,7 +1,6 @@
 -- The fields of a line. Document 01, "A job table", and number 3. Assumes nothing.
 use Rattle.laws.specs.Words.{ℕ, zero, suc, _+_, cond, List, [], _∷_, _++_, length, drop, eqb}
-use Rattle.decimal.specs.declared.field.Field.{Field}
-use Rattle.decimal.specs.Fields.{fieldOf}
+use Rattle.decimal.specs.{declared.field.Field.Field, Fields.fieldOf}
 
 -- The most columns of a line.
 abbrev pub maxColumns : ℕ

@@ -2,8 +2,7 @@
 use Rattle.laws.specs.Words.{ℕ, Bool, true, false, cond, List, [], _∷_, _++_, length, getD, leb, eqb, lastOf, ascii}
 use Rattle.jobs.specs.declared.{job.Job.Job, refusal.Refusal.Refusal, refusal.Check.Check}
 use Rattle.jobs.specs.{Refusals.onPass, Jobs.job, Jobs.noJob, Jobs.setOf, Checks.recordCheck, Checks.anyRecord}
-use Rattle.table.specs.declared.reading.Reading.{Reading}
-use Rattle.table.specs.{Lines.linesOf, Rows.maxColumns, Rows.Row, Rows.row, Rows.noRow, Rows.rowOf}
+use Rattle.table.specs.{declared.reading.Reading.Reading, Lines.linesOf, Rows.maxColumns, Rows.Row, Rows.row, Rows.noRow, Rows.rowOf}
 
 -- The first line.
 abbrev pub header : List ℕ

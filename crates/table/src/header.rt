@@ -1,7 +1,6 @@
 // The first line of a table.
 ghost use Rattle.laws.specs.Words.{_≡_, _-_, cond, length, take};
-ghost use Rattle.table.specs.Lines.{firstLine, afterLine};
-ghost use Rattle.table.specs.Tables.{header, same};
+ghost use Rattle.table.specs.{Lines.firstLine, Lines.afterLine, Tables.header, Tables.same};
 use crate::line::End;
 use crate::line::read_end;
 

@@ -1,8 +1,6 @@
 // One line of a table after the first: fields with single commas.
 ghost use Rattle.laws.specs.Words.{_≡_, _≤_, _-_, cond, [], length, padded};
-ghost use Rattle.table.specs.Lines.{firstLine, afterLine};
-ghost use Rattle.table.specs.Rows.{maxColumns, columnOf, row, noRow, rowOf};
-ghost use Rattle.table.specs.Tables.{same};
+ghost use Rattle.table.specs.{Lines.firstLine, Lines.afterLine, Rows.maxColumns, Rows.columnOf, Rows.row, Rows.noRow, Rows.rowOf, Tables.same};
 use decimal::field::Field;
 use decimal::field::read_field;
 use jobs::refusal::Check;

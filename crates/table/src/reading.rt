@@ -1,7 +1,6 @@
 // A whole job table, from its text to the set of its jobs.
 ghost use Rattle.laws.specs.Words.{_≡_, []};
-ghost use Rattle.table.specs.Lines.{linesOf};
-ghost use Rattle.table.specs.Tables.{jobOf, refusedWith, recordsFrom, readingOf};
+ghost use Rattle.table.specs.{Lines.linesOf, Tables.jobOf, Tables.refusedWith, Tables.recordsFrom, Tables.readingOf};
 use crate::header::read_header;
 use crate::line::End;
 use crate::line::MAX_COLUMNS;

@@ -1,8 +1,7 @@
 -- What is proved of every accepted set of jobs, in proofs/Claims under the name that a comment gives. Document 01, "The runs of demand 3" and "Bounds".
 -- Assumes nothing.
 use Rattle.laws.specs.Words.{ℕ, zero, suc, _≤_, _<_, max, _≡_, List, length}
-use Rattle.jobs.specs.declared.{job.Job.Job, refusal.Check.Check}
-use Rattle.jobs.specs.Checks.{checkOf}
+use Rattle.jobs.specs.{declared.job.Job.Job, declared.refusal.Check.Check, Checks.checkOf}
 use Rattle.theory.specs.{Table.Table, Table.tableOf, Bounds.boundAt, Bounds.ert, Bounds.cja, Bounds.boundLimit, Rounds.round, Rounds.after, Rounds.Answer, Rounds.roundLimit, Rounds.itr, Runs.Entry, Runs.Times, Runs.Releases, Runs.Run, Runs.CompleteBy, Parts.Part, Parts.LessUrgent}
 
 -- A claim about the table of every accepted list of jobs: no number of checking a set handed by value applies to it.

@@ -1,8 +1,7 @@
 -- A table of jobs, as the rules read it: place by place from 0, in table order, with effective releases. Document 01, "Bounds", first paragraph.
 -- Only here and in `urgencyOf` do the rules know what a job's record holds. Assumes nothing.
 use Rattle.laws.specs.Words.{ℕ, zero, suc, _+_, max, Bool, cond, List, eqb, length}
-use Rattle.jobs.specs.declared.job.Job.{Job}
-use Rattle.jobs.specs.Jobs.{jobAt, urgencyOf}
+use Rattle.jobs.specs.{declared.job.Job.Job, Jobs.jobAt, Jobs.urgencyOf}
 
 -- How many jobs there are and, by place, the figures of each.
 pub record Table : Type 0 where

@@ -1,7 +1,6 @@
 -- Slack and verdict. Document 01, "Bounds", last paragraph. Assumes nothing.
 use Rattle.laws.specs.Words.{ℕ, Bool, List, leb, ℤ, pos, _-ℤ_, length, everyBelow, tabulate}
-use Rattle.jobs.specs.declared.job.Job.{Job}
-use Rattle.jobs.specs.Jobs.{jobAt}
+use Rattle.jobs.specs.{declared.job.Job.Job, Jobs.jobAt}
 use Rattle.theory.specs.{Table.tableOf, Bounds.boundAt, Rounds.itr}
 
 -- The deadline less the bound, below zero where the bound is later.

@@ -7,7 +7,7 @@ use borrow.Author.Tests.{not-true, not-false}
 use borrow.Author.Needs.{needs}
 use Rattle.laws.specs.Words.{everyBelow}
 use Rattle.machine.specs.States.{complete}
-use Rattle.machine.proofs.Every.{every-none, every-next, every-not}
+use Rattle.laws.proofs.Every.{every-none, every-next, every-not}
 use Rattle.machine.proofs.ready.are_complete.Statement.{statement}
 use Rattle.machine.proofs.ready.are_complete.Tie as tie
 

@@ -10,7 +10,7 @@ use Rattle.laws.specs.Words.{everyBelow}
 use Rattle.theory.proofs.Columns.{seen}
 use Rattle.machine.specs.Steps.{possible}
 use Rattle.machine.proofs.Readiness.{stateOf}
-use Rattle.machine.proofs.Every.{every-none, every-next, every-not}
+use Rattle.laws.proofs.Every.{every-none, every-next, every-not}
 use Rattle.machine.proofs.step.are_possible.Statement.{statement}
 use Rattle.machine.proofs.step.are_possible.Tie as tie
 
