@@ -1,5 +1,4 @@
--- The answers of the public functions. Document 01, "Bounds", the refusals of a set and of admission, and number 10. Unused places of an answer are 0.
--- Assumes nothing.
+-- The answers, whose unused places are 0. Document 01, "Bounds", the refusals of a set and of admission, and number 10. Assumes nothing.
 use Rattle.laws.specs.Words.{ℕ, _≤_, max, _≡_, cond, List, [], eqb, pos, padded}
 use Rattle.jobs.specs.declared.{job.Job.Job, set.JobSet.JobSet, refusal.Refusal.Refusal, refusal.Check.Check}
 use Rattle.jobs.specs.{Limits.maxJobs, Refusals.onPass, Jobs.jobsOf, Jobs.setOf, Checks.checkOf, Joins.withChain, Joins.joinCheck}
@@ -54,17 +53,12 @@ verdictBy js algorithm =
 unfoldable pub verdictOf : JobSet → ℕ → Verdict
 verdictOf set algorithm = onPass (checkOf (jobsOf set)) Verdict.Refused (verdictBy (jobsOf set) algorithm)
 
--- The answer to admission: only a yes lets the joined set in.
-abbrev pub admitted : Verdict → JobSet → JobSet → Admission
-admitted Verdict.Yes old joined = record { verdict = Verdict.Yes; set = joined }
-admitted Verdict.No old joined = record { verdict = Verdict.No; set = old }
-admitted (Verdict.Refused refusal) old joined = record { verdict = Verdict.Refused refusal; set = old }
-
--- A further chain is admitted where the verdict on the joined jobs is yes; what refuses the joining comes before number 10.
+-- A further chain is admitted where the verdict on the joined jobs is yes; else the old set stays. What refuses the joining comes before number 10.
 unfoldable pub admissionOf : JobSet → JobSet → ℕ → Admission
 admissionOf old new algorithm =
     let joined = withChain (jobsOf old) (jobsOf new) in
-    admitted (onPass (joinCheck (jobsOf old) (jobsOf new)) Verdict.Refused (verdictBy joined algorithm)) old (setOf joined)
+    let verdict = onPass (joinCheck (jobsOf old) (jobsOf new)) Verdict.Refused (verdictBy joined algorithm) in
+    record { verdict = verdict; set = elim verdict [ Verdict.Yes ↦ setOf joined | Verdict.No ↦ old | Verdict.Refused refusal ↦ old ] }
 
 -- `itr-rounds`: the number of rounds in the ITR answer of an accepted set of n jobs is that of the first round whose bounds equal the previous ones; it is
 -- at most n × n × (n − 1) + 2, and at most n where there is a job.

@@ -1,6 +1,6 @@
 // Admission of a further chain.
 ghost use Rattle.laws.specs.Words.{_≡_};
-ghost use Rattle.analysis.specs.Answers.{admitted as Analysis·admitted, admissionOf};
+ghost use Rattle.analysis.specs.Answers.{admissionOf};
 use crate::answer::Admission;
 use crate::answer::Verdict;
 use crate::verdict::accepted_verdict;
@@ -10,7 +10,7 @@ use jobs::set::JobSet;
 
 // The set that a verdict leaves.
 fn admitted(verdict: Verdict, old: JobSet, joined: JobSet) -> Admission
-    ensures { λ r. ⌜ r ≡ Analysis·admitted verdict old joined ⌝ }
+    ensures { λ r. ⌜ r ≡ record { verdict = verdict; set = elim verdict [ Verdict.Yes ↦ joined | Verdict.No ↦ old | Verdict.Refused refusal ↦ old ] } ⌝ }
 {
     match verdict {
         Verdict::Yes => Admission {

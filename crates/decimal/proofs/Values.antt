@@ -9,7 +9,7 @@ use native.Mathlib.Numerals.{add-one}
 use lib.IntN.{ℤ, pos, negsuc, natAbs}
 use lib.ListN.{length, getD, length-append, List·getD-append}
 use borrow.Author.Tests.{ne-eqb}
-use Rattle.decimal.specs.Digits.{digitCount, lastDigits, decimal, signed, valueFrom, valueOf}
+use Rattle.decimal.specs.Digits.{digitCount, lastDigits, decimal, signed, valueFrom}
 use Rattle.decimal.specs.Fields.{leadingZero}
 use Rattle.decimal.proofs.Counts.{by-digits, count-one, count-more, count-some, count-within}
 
@@ -54,13 +54,13 @@ value-snoc [] a d = refl
 value-snoc (x ∷ s) a d = value-snoc s (a * 10 + (x - 48)) d
 
 -- the digits of a number spell it
-pub value-decimal : (n : ℕ) → valueOf (decimal n) ≡ n
+pub value-decimal : (n : ℕ) → valueFrom 0 (decimal n) ≡ n
 value-decimal =
-    by-digits (λ n. valueOf (decimal n) ≡ n)
+    by-digits (λ n. valueFrom 0 (decimal n) ≡ n)
     (λ n h. rw (decimal-one n h) (value-one n))
     (λ n h p. rw (decimal-more n h) (value-snoc (decimal (n / 10)) 0 (48 + n % 10) ∙ omega arith))
   where
-    value-one : (n : ℕ) → valueOf ((48 + n) ∷ []) ≡ n
+    value-one : (n : ℕ) → valueFrom 0 ((48 + n) ∷ []) ≡ n
     value-one n = unfold valueFrom in omega arith
 
 -- the first digit of a number is no 0, except in 0 itself

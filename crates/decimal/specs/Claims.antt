@@ -1,12 +1,12 @@
 -- What is proved of decimal digits, for numbers of any size; proofs/Claims.antt has the proof of all. Assumes nothing.
 use Rattle.laws.specs.Words.{ℕ, suc, _-_, _^_, _≤_, _<_, false, List, [], _++_, _≡_, length}
-use Rattle.decimal.specs.{Digits.digitCount, Digits.decimal, Digits.valueOf, Fields.maxDigits, Fields.digitRun, Fields.leadingZero, Fields.fieldOf}
+use Rattle.decimal.specs.{Digits.digitCount, Digits.decimal, Digits.valueFrom, Fields.maxDigits, Fields.digitRun, Fields.leadingZero, Fields.fieldOf}
 use Rattle.decimal.specs.declared.field.Field.{Field}
 
 -- One field for each theorem on digits, counts and reading back.
 pub record Claims : Type 0 where
   -- The digits of a number spell it.
-  pub value-decimal : (n : ℕ) → valueOf (decimal n) ≡ n
+  pub value-decimal : (n : ℕ) → valueFrom 0 (decimal n) ≡ n
   -- There are as many as the count says.
   pub length-decimal : (n : ℕ) → length (decimal n) ≡ digitCount n
   -- A number is below ten to the power of its count.

@@ -19,14 +19,10 @@ lastDigits (suc k) n = lastDigits k (n / 10) ++ ((48 + n % 10) ∷ [])
 unfoldable pub decimal : ℕ → List ℕ
 decimal n = lastDigits (digitCount n) n
 
--- The number that digits spell after the number a.
+-- The number that digits spell after the number a, which is 0 for the digits alone.
 unfoldable pub valueFrom : ℕ → List ℕ → ℕ
 valueFrom a [] = a
 valueFrom a (digit ∷ text) = valueFrom (a * 10 + (digit - 48)) text
-
--- The number that digits spell.
-abbrev pub valueOf : List ℕ → ℕ
-valueOf text = valueFrom 0 text
 
 -- The digits of an integer, after a minus sign, code 45, where it is below zero; `negsuc n` is the one of size n + 1.
 unfoldable pub signed : ℤ → List ℕ

@@ -1,6 +1,6 @@
 -- A field of a table: a decimal number at the start of a text. Document 01, "A job table". Assumes nothing.
 use Rattle.laws.specs.Words.{ℕ, Bool, false, cond, not, _&&_, List, [], _∷_, leb, eqb, length}
-use Rattle.decimal.specs.{Digits.valueOf, declared.field.Field.Field}
+use Rattle.decimal.specs.{Digits.valueFrom, declared.field.Field.Field}
 
 -- Whether a byte is the code of a digit, 48 for 0 to 57 for 9.
 unfoldable pub isDigit : ℕ → Bool
@@ -27,4 +27,4 @@ isNumeral digits = leb 1 (length digits) && leb (length digits) maxDigits && not
 
 -- The number that the whole run of digits at the start of a text spells and how many bytes it takes, or no number.
 unfoldable pub fieldOf : List ℕ → Field
-fieldOf text = let run = digitRun text in cond (isNumeral run) (Field.Number (valueOf run) (length run)) Field.NoNumber
+fieldOf text = let run = digitRun text in cond (isNumeral run) (Field.Number (valueFrom 0 run) (length run)) Field.NoNumber

@@ -1,5 +1,4 @@
--- A further chain joins a set. Document 01, "Admission joins a chain as the highest-numbered one", and the last paragraph of the refusals.
--- Assumes nothing.
+-- A further chain joins a set. Document 01, "Admission joins a chain as the highest-numbered one", and the end of the refusals. Assumes nothing.
 use Rattle.laws.specs.Words.{ℕ, _+_, List, [], _∷_, _++_, lastOf}
 use Rattle.jobs.specs.declared.{job.Job.Job, set.JobSet.JobSet, refusal.Check.Check, join.Joined.Joined}
 use Rattle.jobs.specs.{Refusals.onPass, Refusals.andThen, Jobs.job, Jobs.noJob, Jobs.jobsOf, Jobs.setOf, Checks.recordsCheck, Checks.anyRecord}

@@ -1,5 +1,4 @@
--- What is proved of the machine for every accepted set and running times in range, in proofs/Claims under the name that a comment gives.
--- Assumes nothing.
+-- What is proved of the machine for accepted sets and running times in range, in proofs/Claims under the name in each comment. Assumes nothing.
 use Rattle.laws.specs.Words.{ℕ, _*_, _≤_, _<_, _≡_, cond, _&&_, List, [], _∷_, leb, ltb, length, getD, tabulate}
 use Rattle.jobs.specs.declared.{job.Job.Job, refusal.Check.Check}
 use Rattle.theory.specs.{Table.tableOf, Bounds.boundAt, Rounds.itr, Runs.Entry, Runs.idle, Runs.runs, Runs.Run}

@@ -8,8 +8,7 @@ use lib.ListN.{length, length-append, List·getD-append}
 use lib.Seq.{getD-append-seam}
 use Rattle.laws.proofs.Tests.{by-order, by-equal, by-last}
 use Rattle.theory.specs.Table.{Table}
-use Rattle.theory.specs.Runs.{Entry, idle, runs, entryAt, work, timeAt, Complete, PredecessorComplete, Ready, LegalEntry, Legal, Times, Releases}
-use Rattle.theory.specs.Claims.{RunOf}
+use Rattle.theory.specs.Runs.{Entry, idle, runs, entryAt, work, timeAt, Complete, PredecessorComplete, Ready, LegalEntry, Legal, Times, Releases, Run}
 
 entry-append : (r s : List Entry) (n : ℕ) → n < length r → entryAt (r ++ s) n ≡ entryAt r n
 unfolding entryAt
@@ -96,7 +95,7 @@ module _ (t : Table) (release : ℕ → ℕ) (times : List ℕ) where
       let e = picked (h .0) (length (h .0)) (pick (h .0) (length (h .0)) (t .count)) in
       (h .0 ++ (e .0 ∷ []), omega (arith, h .1, length-append (h .0) (e .0 ∷ [])), legal-more (h .0) (e .0) (h .2) (e .1))
 
-  pub run-of : Releases t release → Times t times → (n : ℕ) → RunOf t release times n
+  pub run-of : Releases t release → Times t times → (n : ℕ) → (run : List Entry) × (length run ≡ n) × Run t release times run
   run-of in-time in-range n =
       let h = legal-of n in
-      record { run = h .0; long = h .1; is-run = record { releases = in-time; inRange = in-range; legal = h .2 } }
+      (h .0, h .1, record { releases = in-time; inRange = in-range; legal = h .2 })

@@ -1,5 +1,4 @@
--- What is proved of every accepted set of jobs, in proofs/Claims under the name that a comment gives. Document 01, "The runs of demand 3" and "Bounds".
--- Assumes nothing.
+-- What is proved of every accepted set, in proofs/Claims under the name in each comment. Document 01, "The runs of demand 3". Assumes nothing.
 use Rattle.laws.specs.Words.{ℕ, zero, suc, _≤_, _<_, max, _≡_, List, length}
 use Rattle.jobs.specs.{declared.job.Job.Job, declared.refusal.Check.Check, Checks.checkOf}
 use Rattle.theory.specs.{Table.Table, Table.tableOf, Bounds.boundAt, Bounds.ert, Bounds.cja, Bounds.boundLimit, Rounds.round, Rounds.after, Rounds.Answer, Rounds.roundLimit, Rounds.itr, Runs.Entry, Runs.Times, Runs.Releases, Runs.Run, Runs.CompleteBy, Parts.Part, Parts.LessUrgent}
@@ -41,19 +40,13 @@ pub record Demand3 (t : Table) : Type 0 where
 abbrev pub Determined : Table → Type 0
 Determined t = (answer : Answer) → Settled t answer → answer ≡ itr t
 
--- A run of n entries.
-pub record RunOf (t : Table) (release : ℕ → ℕ) (times : List ℕ) (n : ℕ) : Type 0 where
-  pub run : List Entry
-  pub long : length run ≡ n
-  pub is-run : Run t release times run
-
 -- `runs-exist`: a legal run exists at every length for every choice of running times and releases in range, and there is such a choice.
 pub record Runnable (t : Table) : Type 0 where
   pub times : List ℕ
   pub release : ℕ → ℕ
   pub in-range : Times t times
   pub in-time : Releases t release
-  pub each-length : (r : ℕ → ℕ) (x : List ℕ) → Releases t r → Times t x → (n : ℕ) → RunOf t r x n
+  pub each-length : (r : ℕ → ℕ) (x : List ℕ) → Releases t r → Times t x → (n : ℕ) → (run : List Entry) × (length run ≡ n) × Run t r x run
 
 -- `bounds-limited`: all bounds are below 10,000,000,000.
 pub record Bounded (t : Table) : Type 0 where

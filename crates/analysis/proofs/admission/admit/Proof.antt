@@ -7,10 +7,16 @@ use Rattle.jobs.specs.Jobs.{jobsOf, setOf}
 use Rattle.jobs.specs.Joins.{withChain}
 use Rattle.jobs.specs.declared.set.JobSet.{JobSet}
 use Rattle.analysis.specs.declared.answer.Verdict.{Verdict}
-use Rattle.analysis.specs.Answers.{admitted, admissionOf, verdictBy}
+use Rattle.analysis.specs.declared.answer.Admission.{Admission}
+use Rattle.analysis.specs.Answers.{admissionOf, verdictBy}
 use Rattle.analysis.proofs.Joining.{joined-check, joined-passes, joined-set, joined-jobs, joined-accepted}
 use Rattle.analysis.proofs.admission.admit.Statement.{statement}
 use Rattle.analysis.proofs.admission.admit.Tie as tie
+
+-- the set that a verdict leaves
+abbrev admitted : Verdict → JobSet → JobSet → Admission
+admitted verdict old joined =
+    record { verdict = verdict; set = elim verdict [ Verdict.Yes ↦ joined | Verdict.No ↦ old | Verdict.Refused refusal ↦ old ] }
 
 join-requires : tie.Need-join-requires
 join-requires c κs = search needs
