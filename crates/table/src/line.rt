@@ -1,6 +1,7 @@
 // One line of a table after the first: fields with single commas.
-ghost use Rattle.laws.specs.Words.{_≡_, _≤_, _-_, cond, [], length, padded};
-ghost use Rattle.table.specs.{Lines.firstLine, Lines.afterLine, Rows.maxColumns, Rows.columnOf, Rows.row, Rows.noRow, Rows.rowOf, Tables.same};
+ghost use Rattle.laws.specs.Words.{_≡_, _≤_, _<_, _+_, _-_, cond, eqb, [], length, drop, getD, padded};
+ghost use Rattle.decimal.specs.Fields.{fieldOf};
+ghost use Rattle.table.specs.{Lines.firstLine, Lines.afterLine, Rows.maxColumns, Rows.row, Rows.noRow, Rows.rowOf, Tables.same};
 use decimal::field::Field;
 use decimal::field::read_field;
 use jobs::refusal::Check;
@@ -24,7 +25,7 @@ pub struct Line {
 
 // The field of column k at the start of rest, with the comma before it, which the first column lacks.
 fn read_column(rest: &[u8], k: usize) -> Field
-    ensures { λ r. ⌜ r ≡ columnOf k (now (rest .entry)) ⌝ }
+    ensures { λ r. let bytes = now (rest .entry) in ⌜ r ≡ cond (eqb k 0) (fieldOf bytes) (cond (eqb (getD bytes 0 0) 44) (elim (fieldOf (drop 1 bytes)) [ Field.Number value length ↦ Field.Number value (length + 1) | Field.NoNumber ↦ Field.NoNumber ]) Field.NoNumber) ⌝ }
 {
     if k == 0 {
         return read_field(rest);
@@ -65,7 +66,7 @@ pub(crate) fn read_end(rest: &[u8]) -> End
 
 // The first line of rest, where it is so many fields; each is read from where the last one ended.
 pub(crate) fn read_line(rest: &[u8], columns: usize) -> Line
-    requires { ⌜ columns ≤ maxColumns ⌝ }
+    requires { ⌜ (0 < columns) × (columns ≤ maxColumns) ⌝ }
     ensures { λ r. let bytes = now (rest .entry) in ⌜ r ≡ elim (rowOf columns (firstLine bytes)) [ row values ↦ record { check = Check.Passed; values = padded maxColumns 0 values; length = length bytes - length (afterLine bytes) } | noRow ↦ record { check = Check.Refused Refusal.MalformedLine; values = padded maxColumns 0 []; length = 0 } ] ⌝ }
 {
     let mut values = [0u64; MAX_COLUMNS];

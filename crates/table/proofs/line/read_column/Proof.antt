@@ -1,12 +1,11 @@
--- `read_column` answers `columnOf`. Assumes nothing.
+-- `read_column` answers the field of the column, byte by byte. Assumes nothing.
 use mathlib.Core.Path.{_≡_, sym, ap, _∙_}
 use native.Mathlib.Omega.{arith}
 use borrow.Author.Needs.{needs}
 use borrow.Author.Tests.{eq-eqb, ne-eqb}
 use Rattle.decimal.specs.declared.field.Field.the-variants.{Number}
 use Rattle.decimal.proofs.Fields.{field-within}
-use Rattle.table.specs.Rows.{withComma}
-use Rattle.table.proofs.Columns.{comma-none, comma-other, comma-read}
+use Rattle.table.proofs.Columns.{withComma, comma-none, comma-read}
 use Rattle.table.proofs.line.read_column.Statement.{statement}
 use Rattle.table.proofs.line.read_column.Tie as tie
 
@@ -17,13 +16,13 @@ returns : tie.Need-returns
 returns c = simp (eq-eqb _ _ (c .before .if1 .taken)) (c .read-field .ensures)
 
 returns-2 : tie.Need-returns-2
-returns-2 c = simp (ne-eqb _ _ (c .before .if1 .left)) (sym (comma-none _ (c .if2 .taken)))
+returns-2 c = simp (ne-eqb _ _ (c .before .if1 .left)) (sym (comma-none (c .before .before .before .args .rest .now) (c .if2 .taken)))
 
 shared-slice-read-if3 : tie.Need-shared-slice-read-if3
 shared-slice-read-if3 c = search needs
 
 returns-3 : tie.Need-returns-3
-returns-3 c = simp (ne-eqb _ _ (c .before .before .before .if1 .left)) (sym (comma-other _ (c .if3 .taken)))
+returns-3 c = simp (ne-eqb _ _ (c .before .before .before .if1 .left), ne-eqb _ _ (c .if3 .taken))
 
 sub-read-field : tie.Need-sub-read-field
 sub-read-field c = search needs

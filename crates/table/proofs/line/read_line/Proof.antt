@@ -4,8 +4,8 @@ use mathlib.Core.Path.{_≡_, sym, _∙_}
 use lib.ListN.{length, drop}
 use borrow.Author.Needs.{needs}
 use Rattle.laws.proofs.Lists.{rest-is}
-use Rattle.table.specs.Rows.{columnOf}
 use Rattle.table.proofs.Lines.{endOf}
+use Rattle.table.proofs.Columns.{columnOf}
 use Rattle.table.proofs.Rows.{FieldsRead, fields-none, fields-malformed, fields-within, fields-next, fields-last, fields-ended, fields-open}
 use Rattle.table.proofs.line.read_line.Statement.{statement}
 use Rattle.table.proofs.line.read_line.Tie as tie
