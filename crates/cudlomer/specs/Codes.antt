@@ -1,7 +1,7 @@
 -- Answers as C sees them. Document 01, "Programs and the C side". Assumes nothing.
 use Rattle.laws.specs.Words.{ℕ, List, ℤ, pos, negℤ}
-use Rattle.jobs.specs.{declared.refusal.Refusal.Refusal, Refusals.numberOf, Refusals.onPass, Jobs.jobsOf}
-use Rattle.table.specs.Tables.{readingOf}
+use Rattle.jobs.specs.{declared.refusal.Refusal.Refusal, Refusals.numberOf}
+use Rattle.table.specs.Tables.{onTable}
 use Rattle.theory.specs.{Table.tableOf, Rounds.itr}
 use Rattle.analysis.specs.{declared.answer.Verdict.Verdict, Answers.verdictBy}
 use Rattle.report.specs.declared.written.Written.{Written}
@@ -23,8 +23,8 @@ verdictCode (Verdict.Refused refusal) = refusalCode refusal
 
 -- The verdict on a table's text; the refusals of reading come first.
 unfoldable pub verdictOfTable : List ℕ → ℕ → Verdict
-verdictOfTable text algorithm = let reading = readingOf text in onPass (reading .check) Verdict.Refused (verdictBy (jobsOf (reading .set)) algorithm)
+verdictOfTable text algorithm = onTable text Verdict.Refused (λ js. verdictBy js algorithm)
 
 -- The rounds of ITR on a table's text, or the refusal of reading.
 unfoldable pub roundsOfTable : List ℕ → ℤ
-roundsOfTable text = let reading = readingOf text in onPass (reading .check) refusalCode (pos (itr (tableOf (jobsOf (reading .set))) .rounds))
+roundsOfTable text = onTable text refusalCode (λ js. pos (itr (tableOf js) .rounds))

@@ -79,6 +79,7 @@ p3 = (
   row 1 1 0 30 ++ row 1 2 30 40 ++ row 2 1 40 50 ++ row 2 2 60 110 ++ row 1 3 110 160 ++ row 1 4 160 245,
 )
 
+-- P1: two chains, with deadlines of which one is missed.
 abbrev pub p1 : Case
 p1 =
     accepted

@@ -1,8 +1,8 @@
 -- Whole texts in a lent buffer. Document 01, "Programs and the C side", and number 9. Assumes nothing.
 use Rattle.laws.specs.Words.{ℕ, cond, List, _++_, map, leb, length, ascii}
 use Rattle.decimal.specs.Writing.{written}
-use Rattle.jobs.specs.{declared.job.Job.Job, declared.refusal.Refusal.Refusal, Refusals.onPass, Jobs.jobsOf}
-use Rattle.table.specs.Tables.{readingOf}
+use Rattle.jobs.specs.{declared.job.Job.Job, declared.refusal.Refusal.Refusal}
+use Rattle.table.specs.Tables.{onTable}
 use Rattle.theory.specs.{Table.tableOf, Bounds.ert, Bounds.cja, Rounds.itr, Verdicts.slacks}
 use Rattle.machine.specs.Traces.{rows, traced}
 use Rattle.report.specs.{declared.written.Written.Written, Rows.boundsRows, Rows.entriesText}
@@ -37,8 +37,8 @@ answerTo text buffer = cond (leb (length text) (length buffer)) (Written.Bytes (
 
 -- The answer to writing a text of a table's jobs into a buffer: the refusals of reading come first, then 9.
 unfoldable pub answerFor : (List Job → List ℕ) → List ℕ → List ℕ → Written
-answerFor textOf table buffer = let reading = readingOf table in onPass (reading .check) Written.Refused (answerTo (textOf (jobsOf (reading .set))) buffer)
+answerFor textOf table buffer = onTable table Written.Refused (λ js. answerTo (textOf js) buffer)
 
 -- The buffer after it, as it was where there is a refusal.
 unfoldable pub leftFor : (List Job → List ℕ) → List ℕ → List ℕ → List ℕ
-leftFor textOf table buffer = let reading = readingOf table in onPass (reading .check) (λ refusal. buffer) (written (textOf (jobsOf (reading .set))) buffer)
+leftFor textOf table buffer = onTable table (λ refusal. buffer) (λ js. written (textOf js) buffer)

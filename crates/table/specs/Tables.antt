@@ -1,7 +1,7 @@
 -- A whole job table. Document 01, "A job table", and numbers 1 to 7. Assumes nothing.
 use Rattle.laws.specs.Words.{ℕ, Bool, true, false, cond, List, [], _∷_, _++_, length, getD, leb, eqb, lastOf, ascii}
 use Rattle.jobs.specs.declared.{job.Job.Job, refusal.Refusal.Refusal, refusal.Check.Check}
-use Rattle.jobs.specs.{Refusals.onPass, Jobs.job, Jobs.noJob, Jobs.setOf, Checks.recordCheck, Checks.anyRecord}
+use Rattle.jobs.specs.{Refusals.onPass, Jobs.job, Jobs.noJob, Jobs.jobsOf, Jobs.setOf, Checks.recordCheck, Checks.anyRecord}
 use Rattle.table.specs.{declared.reading.Reading.Reading, Lines.linesOf, Rows.maxColumns, Rows.Row, Rows.row, Rows.noRow, Rows.rowOf}
 
 -- The first line.
@@ -47,3 +47,7 @@ underHeader (line ∷ lines) = cond (same line header) (recordsFrom [] lines) (r
 -- The answer to reading a text: its jobs, or the refusal with no jobs; 1 comes first.
 unfoldable pub readingOf : List ℕ → Reading
 readingOf text = cond (leb (length text) maxText) (underHeader (linesOf text)) (refusedWith Refusal.TextTooLong)
+
+-- What is made of the jobs of a table, or of the refusal of reading it.
+abbrev pub onTable : {A : Type 0} → List ℕ → (Refusal → A) → (List Job → A) → A
+onTable text otherwise answer = let reading = readingOf text in onPass (reading .check) otherwise (answer (jobsOf (reading .set)))
