@@ -1,58 +1,64 @@
 -- Columns one after another, and how many bytes they take. Assumes nothing.
-use Prim.Native.Nat.{ℕ, zero, suc, _+_, _^_, _≤_, _<_}
+use Prim.Native.Nat.{ℕ, suc, _+_, _^_, _≤_, _<_}
 use mathlib.Core.List.{List, [], _∷_, _++_, append-assoc, append-nil}
-use mathlib.Core.Path.{_≡_, refl, sym, ap, _∙_}
+use mathlib.Core.Path.{_≡_, sym, ap, _∙_}
+use mathlib.Core.Bool.{cond}
 use native.Mathlib.Omega.{arith}
-use native.Mathlib.Nat.{add-zero}
 use native.Mathlib.Numerals.{add-one}
-use lib.ListN.{length, take, getD}
+use lib.Dec.{eqb}
+use lib.ListN.{length, take, drop, getD}
 use lib.Seq.{take-suc, take-all, length-take-le}
+use borrow.Author.Tests.{eq-eqb, ne-eqb}
+use Rattle.laws.proofs.Tests.{by-equal}
 use Rattle.decimal.specs.Digits.{digitCount, decimal}
 use Rattle.decimal.proofs.Counts.{count-within}
 use Rattle.decimal.proofs.Values.{length-decimal}
-use Rattle.report.specs.Rows.{columnText, columnsFrom, columnsText}
+use Rattle.report.specs.Rows.{afterCommas, columnsText}
 
-pub first-length : (k value : ℕ) → k ≡ 0 → length (columnText k value) ≡ digitCount value
-unfolding columnText
-first-length zero value e = length-decimal value
-first-length (suc k) value e = absurd (omega arith)
-
-pub later-length : (k value : ℕ) → (k ≡ 0 → ⊥) → length (columnText k value) ≡ digitCount value + 1
-unfolding columnText
-later-length zero value h = absurd (h refl)
-later-length (suc k) value h = omega (arith, length-decimal value)
+-- a number as column k: with a comma before all but the first
+abbrev pub columnText : ℕ → ℕ → List ℕ
+columnText k value = cond (eqb k 0) (decimal value) (44 ∷ decimal value)
 
 pub first-text : (k value : ℕ) → k ≡ 0 → columnText k value ≡ decimal value
-unfolding columnText
-first-text zero value e = refl
-first-text (suc k) value e = absurd (omega arith)
+first-text k value e = rw (eq-eqb k 0 e)
 
-pub later-text : (k value : ℕ) → (k ≡ 0 → ⊥) → columnText k value ≡ (44 ∷ []) ++ decimal value
-unfolding columnText
-later-text zero value h = absurd (h refl)
-later-text (suc k) value h = refl
+pub later-text : (k value : ℕ) → (k ≡ 0 → ⊥) → columnText k value ≡ 44 ∷ decimal value
+later-text k value h = rw (ne-eqb k 0 h)
+
+pub first-length : (k value : ℕ) → k ≡ 0 → length (columnText k value) ≡ digitCount value
+first-length k value e = ap length (first-text k value e) ∙ length-decimal value
+
+pub later-length : (k value : ℕ) → (k ≡ 0 → ⊥) → length (columnText k value) ≡ digitCount value + 1
+later-length k value h = omega (arith, ap length (later-text k value h), length-decimal value)
 
 -- a number of 64 bits has at most 20 digits
 pub word-digits : (value : ℕ) → value < 2 ^ 64 → digitCount value ≤ 20
 word-digits value h = count-within 19 value (omega arith)
 
 pub column-within : (k value : ℕ) → value < 2 ^ 64 → length (columnText k value) ≤ 21
-unfolding columnText
-column-within zero value h = omega (arith, word-digits value h, length-decimal value)
-column-within (suc k) value h = omega (arith, word-digits value h, length-decimal value)
+column-within k value h =
+    by-equal k 0
+    (λ e. omega (arith, first-length k value e, word-digits value h))
+    (λ ne. omega (arith, later-length k value ne, word-digits value h))
 
-from-snoc : (k : ℕ) (values : List ℕ) (value : ℕ) → columnsFrom k (values ++ (value ∷ [])) ≡ columnsFrom k values ++ columnText (k + length values) value
-unfolding columnsFrom
-from-snoc k [] value = rw add-zero (append-nil (columnText k value))
-from-snoc k (v ∷ values) value =
-    let n : suc k + length values ≡ k + suc (length values) = omega arith in
-    rw (← n) (ap (λ (l : List ℕ). columnText k v ++ l) (from-snoc (suc k) values value) ∙ sym (append-assoc (columnText k v) (columnsFrom (suc k) values) (columnText (suc k + length values) value)))
+commas-snoc : (values : List ℕ) (value : ℕ) → afterCommas (values ++ (value ∷ [])) ≡ afterCommas values ++ (44 ∷ decimal value)
+unfolding afterCommas
+commas-snoc [] value = append-nil (44 ∷ decimal value)
+commas-snoc (v ∷ values) value =
+    ap (λ (l : List ℕ). (44 ∷ decimal v) ++ l) (commas-snoc values value) ∙ sym (append-assoc (44 ∷ decimal v) (afterCommas values) (44 ∷ decimal value))
+
+columns-snoc : (values : List ℕ) (value : ℕ) → columnsText (values ++ (value ∷ [])) ≡ columnsText values ++ columnText (length values) value
+unfolding afterCommas
+columns-snoc [] value = append-nil (decimal value)
+columns-snoc (v ∷ values) value =
+    rw (later-text (suc (length values)) value (λ e. omega arith)) (ap (drop 1) (commas-snoc (v ∷ values) value))
 
 -- one column more
 pub columns-next : (values : List ℕ) (k : ℕ) → k < length values → columnsText (take (k + 1) values) ≡ columnsText (take k values) ++ columnText k (getD values k 0)
 columns-next values k h =
-    let n : 0 + length (take k values) ≡ k = omega (arith, length-take-le k values (omega arith)) in
-    rw (add-one, take-suc values k 0 h) (from-snoc 0 (take k values) (getD values k 0) ∙ ap (λ (i : ℕ). columnsText (take k values) ++ columnText i (getD values k 0)) n)
+    rw (add-one, take-suc values k 0 h)
+    (columns-snoc (take k values) (getD values k 0)
+    ∙ ap (λ (i : ℕ). columnsText (take k values) ++ columnText i (getD values k 0)) (length-take-le k values (omega arith)))
 
 pub columns-all : (values : List ℕ) (k : ℕ) → length values ≤ k → columnsText (take k values) ≡ columnsText values
 columns-all values k h = ap columnsText (take-all k values h)

@@ -11,8 +11,8 @@ use Rattle.laws.proofs.Buffers.{Wrote, wrote-none, wrote-one}
 use Rattle.laws.proofs.Pieces.{Made, PiecesWritten, pieces-none, pieces-end}
 use Rattle.decimal.specs.Digits.{decimal}
 use Rattle.decimal.proofs.Writing.{Writes, restFrom, wrote-written}
-use Rattle.report.specs.Rows.{columnText, columnsFrom, columnsText}
-use Rattle.report.proofs.ColumnTexts.{first-text, later-text, columns-next}
+use Rattle.report.specs.Rows.{afterCommas, columnsText}
+use Rattle.report.proofs.ColumnTexts.{columnText, first-text, later-text, columns-next}
 
 -- a comma, and a text into the rest behind it
 pub comma-written : (text b : List ℕ) (at : ℕ) {count : ℕ} {after : List ℕ} → at + length (44 ∷ text) ≤ length b → Writes text (restFrom (at + 1) (set b at 44)) count after
@@ -33,7 +33,7 @@ module _ (k value : ℕ) (b : List ℕ) (at : ℕ) (room : at + length (columnTe
 
 -- ---- all columns, piece by piece
 pub columns-made : (values : List ℕ) → Made (λ k. columnsText (take k values)) (λ k. columnText k (getD values k 0)) (length values)
-unfolding columnsFrom
+unfolding afterCommas
 columns-made values = record { none = refl; next = columns-next values }
 
 abbrev pub ColumnsWritten : List ℕ → List ℕ → ℕ → List ℕ → ℕ → ℕ → Type 0

@@ -6,7 +6,7 @@ use mathlib.Core.Path.{_≡_, sym, ap, subst}
 use native.Mathlib.Omega.{arith}
 use lib.Dec.{ltb}
 use lib.IntN.{ℤ, pos, natAbs, _-ℤ_}
-use lib.ListN.{length, getD, length-append, List·getD-eq-default}
+use lib.ListN.{length, getD, length-append, length-drop, List·getD-eq-default}
 use borrow.Author.Tests.{ltb-true, ltb-false}
 use Rattle.laws.proofs.Tests.{by-test}
 use Rattle.laws.proofs.Tabulate.{getD-tabulate}
@@ -28,7 +28,7 @@ use Rattle.machine.specs.States.{lastTime}
 use Rattle.machine.specs.Traces.{row, rows, traced}
 use Rattle.machine.proofs.SpanTimes.{EndedBy, spans-ended}
 use Rattle.machine.proofs.Claims.{trace-within-twice}
-use Rattle.report.specs.Rows.{columnText, columnsFrom, columnsText, boundsRow, boundsRows, entriesText, lineEnd}
+use Rattle.report.specs.Rows.{afterCommas, columnsText, boundsRow, boundsRows, entriesText, lineEnd}
 use Rattle.report.specs.Texts.{boundsHeader, boundsText, mostTimes, traceHeader, traceText}
 use Rattle.report.specs.Claims.{maxBytes, TextsFit}
 use Rattle.report.proofs.RowTexts.{rowValues, row-length}
@@ -46,17 +46,15 @@ abbrev total : List ℕ → ℕ
 total [] = 0
 total (width ∷ widths) = width + 1 + total widths
 
-column-length : (k value : ℕ) → length (columnText k value) ≤ length (decimal value) + 1
-unfolding columnText
-column-length zero value = omega arith
-column-length (suc k) value = omega arith
+commas-within : (values widths : List ℕ) → Narrow values widths → length (afterCommas values) ≤ total widths
+unfolding afterCommas
+commas-within [] widths h = omega arith
+commas-within (value ∷ values) [] h = absurd h
+commas-within (value ∷ values) (width ∷ widths) h =
+    omega (arith, length-append (44 ∷ decimal value) (afterCommas values), h .0, commas-within values widths (h .1))
 
-columns-within : (k : ℕ) (values widths : List ℕ) → Narrow values widths → length (columnsFrom k values) ≤ total widths
-unfolding columnsFrom
-columns-within k [] widths h = omega arith
-columns-within k (value ∷ values) [] h = absurd h
-columns-within k (value ∷ values) (width ∷ widths) h =
-    omega (arith, length-append (columnText k value) (columnsFrom (suc k) values), column-length k value, h .0, columns-within (suc k) values widths (h .1))
+columns-within : (values widths : List ℕ) → Narrow values widths → length (columnsText values) ≤ total widths
+columns-within values widths h = omega (arith, length-drop 1 (afterCommas values), commas-within values widths h)
 
 -- ---- the numbers of a job
 pub record Numbered (j : Job) : Type 0 where
@@ -107,7 +105,7 @@ module _ (js : List Job) (passed : checkOf js ≡ Passed) where
       let numbers = numbered-at js ok i in
       let narrow : Narrow (rowValues (jobAt js i) e c r) (2 ∷ 3 ∷ 11 ∷ 11 ∷ 11 ∷ []) =
       (numbers .chain, (numbers .job, (decimal-within 10 e (omega (arith, low .by-ert i l)), (decimal-within 10 c (omega (arith, low .by-cja i l)), (decimal-within 10 r (omega (arith, low .by-itr i l)), tt))))) in
-      omega (arith, row-length (jobAt js i) e c r (getD (slacks js) i (pos 0)), columns-within 0 (rowValues (jobAt js i) e c r) (2 ∷ 3 ∷ 11 ∷ 11 ∷ 11 ∷ []) narrow, slack-within i l)
+      omega (arith, row-length (jobAt js i) e c r (getD (slacks js) i (pos 0)), columns-within (rowValues (jobAt js i) e c r) (2 ∷ 3 ∷ 11 ∷ 11 ∷ 11 ∷ []) narrow, slack-within i l)
 
   abbrev bounds-rows : ℕ → List ℕ
   bounds-rows n = boundsRows js (ert (tableOf js)) (cja (tableOf js)) (itr (tableOf js) .bounds) (slacks js) n
@@ -128,7 +126,7 @@ module _ (js : List Job) (passed : checkOf js ≡ Passed) where
       let numbers = numbered-at js ok (s .at) in
       let narrow : Narrow (row js s) (2 ∷ 3 ∷ 10 ∷ 10 ∷ []) =
       (numbers .chain, (numbers .job, (decimal-within 9 (s .from) (omega arith), (decimal-within 9 (s .to) (omega arith), tt)))) in
-      omega (arith, length-append (columnsText (row js s)) lineEnd, columns-within 0 (row js s) (2 ∷ 3 ∷ 10 ∷ 10 ∷ []) narrow)
+      omega (arith, length-append (columnsText (row js s)) lineEnd, columns-within (row js s) (2 ∷ 3 ∷ 10 ∷ 10 ∷ []) narrow)
 
   spans-within : (ss : List Span) → EndedBy lastTime ss → length (spansText js ss) ≤ 31 * length ss
   unfolding spansText

@@ -15,9 +15,9 @@ use Rattle.laws.proofs.Tests.{by-test}
 use Rattle.jobs.specs.declared.refusal.Refusal.{Refusal}
 use Rattle.jobs.specs.declared.refusal.Refusal.the-variants.{TextTooLong, NotHeader, MalformedLine, TooManyRecords, OutOfOrder, OutOfLimits, NoRecord, RunningTimes, ShortBuffer, UnknownAlgorithm, ImpossibleState}
 use Rattle.jobs.specs.Refusals.{numberOf}
-use Rattle.report.specs.Rows.{columnText, lineEnd}
+use Rattle.report.specs.Rows.{lineEnd}
 use Rattle.report.specs.Refusals.{refusedText}
-use Rattle.report.proofs.ColumnTexts.{word-digits}
+use Rattle.report.proofs.ColumnTexts.{columnText, word-digits}
 
 pub refused-length : (refusal : Refusal) → length (refusedText refusal) ≡ 10 + digitCount (numberOf refusal)
 unfolding refusedText
@@ -32,7 +32,7 @@ refused-length refusal =
     )
 
 pub refused-pieces : (refusal : Refusal) (number : ℕ) → number ≡ numberOf refusal → ((([] ++ ascii "refused,") ++ columnText 0 number) ++ lineEnd) ≡ refusedText refusal
-unfolding refusedText columnText
+unfolding refusedText
 refused-pieces refusal number e = rw e (simp append-assoc)
 
 number-within : (refusal : Refusal) → numberOf refusal ≤ 11

@@ -1,5 +1,5 @@
 -- Rows of the bounds text and the trace text. Document 01, "Programs and the C side". Assumes nothing.
-use Rattle.laws.specs.Words.{ℕ, zero, suc, _+_, _*_, List, [], _∷_, _++_, ℤ, pos, getD, ascii}
+use Rattle.laws.specs.Words.{ℕ, zero, suc, _+_, _*_, List, [], _∷_, _++_, ℤ, pos, getD, drop, ascii}
 use Rattle.decimal.specs.Digits.{decimal, signed}
 use Rattle.jobs.specs.{declared.job.Job.Job, Jobs.jobAt}
 
@@ -7,19 +7,14 @@ use Rattle.jobs.specs.{declared.job.Job.Job, Jobs.jobAt}
 abbrev pub lineEnd : List ℕ
 lineEnd = ascii "\r\n"
 
--- A number as column k: its digits, with a comma, code 44, before all but the first.
-unfoldable pub columnText : ℕ → ℕ → List ℕ
-columnText zero value = decimal value
-columnText (suc k) value = 44 ∷ decimal value
+-- Numbers, each after a comma, code 44.
+unfoldable pub afterCommas : List ℕ → List ℕ
+afterCommas [] = []
+afterCommas (value ∷ values) = (44 ∷ decimal value) ++ afterCommas values
 
--- Numbers as the columns from k on.
-unfoldable pub columnsFrom : ℕ → List ℕ → List ℕ
-columnsFrom k [] = []
-columnsFrom k (value ∷ values) = columnText k value ++ columnsFrom (suc k) values
-
--- Numbers as the columns of a line.
+-- Numbers as the columns of a line: without the first comma.
 abbrev pub columnsText : List ℕ → List ℕ
-columnsText values = columnsFrom 0 values
+columnsText values = drop 1 (afterCommas values)
 
 -- A comma and the slack, with its minus sign below zero.
 unfoldable pub slackText : ℤ → List ℕ

@@ -1,12 +1,13 @@
 // Numbers with single commas between them, and bytes as they are, at a place of a buffer that has room for them.
-ghost use Rattle.laws.specs.Words.{_≡_, _+_, _*_, _≤_, length, patched};
-ghost use Rattle.report.specs.Rows.{columnText, columnsText};
+ghost use Rattle.laws.specs.Words.{_≡_, _+_, _*_, _≤_, cond, _∷_, eqb, length, patched};
+ghost use Rattle.decimal.specs.Digits.{decimal};
+ghost use Rattle.report.specs.Rows.{columnsText};
 use decimal::count::digit_count;
 use decimal::unsigned::write_unsigned;
 
 // How many bytes column k takes.
 fn column_length(k: usize, value: u64) -> usize
-    ensures { λ r. ⌜ r ≡ length (columnText k value) ⌝ }
+    ensures { λ r. let text = cond (eqb k 0) (decimal value) (44 ∷ decimal value) in ⌜ r ≡ length text ⌝ }
 {
     let count = digit_count(value);
     if k == 0 {
@@ -17,8 +18,8 @@ fn column_length(k: usize, value: u64) -> usize
 
 // Writes column k, and answers the place after it.
 pub(crate) fn write_column(k: usize, value: u64, out: &mut [u8], at: usize) -> usize
-    requires { ⌜ at + length (columnText k value) ≤ length (now out) ⌝ }
-    ensures { λ r. ⌜ (r ≡ at + length (columnText k value)) × (now (out .exit) ≡ patched (now (out .entry)) at (columnText k value)) ⌝ }
+    requires { let text = cond (eqb k 0) (decimal value) (44 ∷ decimal value) in ⌜ at + length text ≤ length (now out) ⌝ }
+    ensures { λ r. let text = cond (eqb k 0) (decimal value) (44 ∷ decimal value) in ⌜ (r ≡ at + length text) × (now (out .exit) ≡ patched (now (out .entry)) at text) ⌝ }
 {
     if k == 0 {
         return at + write_unsigned(value, &mut out[at..]);

@@ -4,8 +4,8 @@ use mathlib.Core.Path.{_≡_, refl, ap, _∙_}
 use native.Mathlib.Omega.{arith}
 use lib.ListN.{length, take, getD, length-append}
 use borrow.Author.Needs.{needs}
-use Rattle.report.specs.Rows.{columnText, columnsFrom, columnsText}
-use Rattle.report.proofs.ColumnTexts.{column-within, columns-next, columns-all}
+use Rattle.report.specs.Rows.{afterCommas, columnsText}
+use Rattle.report.proofs.ColumnTexts.{columnText, column-within, columns-next, columns-all}
 use Rattle.report.proofs.columns.columns_length.Statement.{statement}
 use Rattle.report.proofs.columns.columns_length.Tie as tie
 
@@ -22,7 +22,7 @@ within c =
     omega (arith, c .column-length .ensures, column-within (l .k) value (omega (arith, c .before .shared-slice-known2 .given (l .k))))
 
 loop-holds : tie.Need-loop-holds Inv-loop μ-loop
-loop-holds c = (omega arith, omega arith, unfold columnsFrom in refl)
+loop-holds c = (omega arith, omega arith, unfold afterCommas in refl)
 
 mul-column-length : tie.Need-mul-column-length Inv-loop μ-loop
 mul-column-length c = search needs

@@ -5,8 +5,7 @@ use lib.ListN.{length, set, length-set}
 use borrow.Rule.Slice.PartMut.{putMid}
 use borrow.Author.Needs.{needs}
 use Rattle.laws.proofs.Buffers.{Wrote, wrote-length}
-use Rattle.report.specs.Rows.{columnText}
-use Rattle.report.proofs.ColumnTexts.{later-length}
+use Rattle.report.proofs.ColumnTexts.{columnText, later-length}
 use Rattle.report.proofs.ColumnWrites.{first-written, later-written}
 use Rattle.report.proofs.columns.write_column.Statement.{statement}
 use Rattle.report.proofs.columns.write_column.Tie as tie
