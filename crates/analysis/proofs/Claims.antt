@@ -1,5 +1,5 @@
 -- The claim of specs/Answers about the number of rounds. Assumes nothing.
-use mathlib.Core.Path.{_≡_, refl}
+use mathlib.Core.Path.{_≡_}
 use Rattle.jobs.specs.declared.set.JobSet.{JobSet}
 use Rattle.jobs.specs.declared.refusal.Check.the-variants.{Passed}
 use Rattle.jobs.specs.Jobs.{jobsOf}
@@ -17,4 +17,4 @@ pub itr-rounds : RoundsCounted
 itr-rounds set passed =
     let all = demand-3 (jobsOf set) passed in
     rw (rounds-are set passed)
-    (record { made = refl; last = all .settled .last; first = all .settled .first }, all .rounds, few-rounds (jobsOf set) passed)
+    (all .settled .last, all .settled .first, all .rounds, few-rounds (jobsOf set) passed)

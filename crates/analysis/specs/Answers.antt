@@ -1,8 +1,8 @@
 -- The answers, whose unused places are 0. Document 01, "Bounds", the refusals of a set and of admission, and number 10. Assumes nothing.
-use Rattle.laws.specs.Words.{ℕ, _≤_, max, _≡_, cond, List, [], eqb, pos, padded}
+use Rattle.laws.specs.Words.{ℕ, _≤_, _<_, max, _≡_, cond, List, [], eqb, pos, padded}
 use Rattle.jobs.specs.declared.{job.Job.Job, set.JobSet.JobSet, refusal.Refusal.Refusal, refusal.Check.Check}
 use Rattle.jobs.specs.{Limits.maxJobs, Refusals.onPass, Jobs.jobsOf, Jobs.setOf, Checks.checkOf, Joins.withChain, Joins.joinCheck}
-use Rattle.theory.specs.{Table.tableOf, Bounds.ert, Bounds.cja, Rounds.after, Rounds.roundLimit, Rounds.itr, Verdicts.slacks, Verdicts.meets, Claims.Settled}
+use Rattle.theory.specs.{Table.tableOf, Bounds.ert, Bounds.cja, Rounds.roundLimit, Rounds.itr, Verdicts.slacks, Verdicts.meets, Claims.Repeats}
 use Rattle.analysis.specs.declared.{answer.Bounds.Bounds, answer.Itr.Itr, answer.Slacks.Slacks, answer.Figures.Figures, answer.Verdict.Verdict, answer.Admission.Admission}
 
 -- A figure of each job in an answer; none on a refusal.
@@ -67,4 +67,4 @@ RoundsCounted =
     (set : JobSet) → checkOf (jobsOf set) ≡ Check.Passed →
     let t = tableOf (jobsOf set) in
     let rounds = itrOf set .rounds in
-    Settled t (record { bounds = after t rounds; rounds = rounds }) × (rounds ≤ roundLimit t) × (rounds ≤ max 1 (t .count))
+    Repeats t rounds × ((n : ℕ) → n < rounds → Repeats t n → ⊥) × (rounds ≤ roundLimit t) × (rounds ≤ max 1 (t .count))

@@ -36,7 +36,7 @@ recordsCheck before (j ∷ js) =
     let later = recordsCheck (before ++ (j ∷ [])) js in
     andThen (recordCheck (length before) (lastOf noJob before) j) later
 
--- 7.
+-- 7, where there is no record.
 abbrev pub anyRecord : List Job → Check
 anyRecord [] = Check.Refused Refusal.NoRecord
 anyRecord (j ∷ js) = Check.Passed

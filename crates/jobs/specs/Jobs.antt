@@ -20,7 +20,7 @@ urgencyOf j = j .priority
 
 -- A set's records, as many as it counts; one handed by value may count more than it has places, and those hold no job.
 unfoldable pub jobsOf : JobSet → List Job
-jobsOf set = tabulate 0 (set .count) (λ i. getD (set .jobs) i noJob)
+jobsOf set = tabulate 0 (set .count) (λ i. jobAt (set .jobs) i)
 
 -- The set that holds these jobs, and no job in its other places.
 unfoldable pub setOf : List Job → JobSet

@@ -29,7 +29,7 @@ pub(crate) fn write_column(k: usize, value: u64, out: &mut [u8], at: usize) -> u
     next + write_unsigned(value, &mut out[next..])
 }
 
-// How many bytes the columns take; a column has a comma and at most 20 digits.
+// How many bytes the columns take, no more than 8 of them; a column has a comma and at most 20 digits.
 pub(crate) fn columns_length(values: &[u64]) -> usize
     requires { ⌜ length (now values) ≤ 8 ⌝ }
     ensures { λ r. ⌜ (r ≡ length (columnsText (now (values .entry)))) × (r ≤ 21 * length (now (values .entry))) ⌝ }
