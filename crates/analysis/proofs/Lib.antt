@@ -5,4 +5,3 @@ pub mod Meeting
 pub mod Differences
 pub mod Slacks
 pub mod Joining
-pub mod Claims

@@ -23,7 +23,7 @@ use Rattle.theory.specs.Table.{tableOf}
 use Rattle.theory.specs.Bounds.{boundAt, boundLimit}
 use Rattle.theory.specs.Rounds.{itr}
 use Rattle.theory.specs.Verdicts.{slack, slacks}
-use Rattle.theory.proofs.Claims.{bounds-limited}
+use Rattle.theory.proofs.Claims.{all-limited}
 use Rattle.analysis.proofs.Differences.{difference-kept}
 
 unfoldable pub slackAt : List Job → ℕ → ℤ
@@ -50,7 +50,7 @@ module _ (js : List Job) (passed : checkOf js ≡ Passed) (bounds : List ℕ) (e
 
   pub slack-limits : (job .deadline ≤ maxDeadline) × (getD bounds i 0 ≤ boundLimit)
   slack-limits =
-      (omega (arith, accepted js passed .limits i l .deadline, ap (λ (j : Job). j .deadline) here), omega (arith, bound-is, bounds-limited js passed .by-itr i l))
+      (omega (arith, accepted js passed .limits i l .deadline, ap (λ (j : Job). j .deadline) here), omega (arith, bound-is, all-limited js passed .by-itr i l))
 
   -- the slack as it is stored
   pub slacked-next : (out : List ℤ) (z : ℤ) → z ≡ slack (job .deadline) (getD bounds i 0) → Slacked js i out → Slacked js (i + 1) (set out i (toZ w64 (ofZ w64 z)))

@@ -1,8 +1,8 @@
 -- The answers, whose unused places are 0. Document 01, "Bounds", the refusals of a set and of admission, and number 10. Assumes nothing.
-use Rattle.laws.specs.Words.{ℕ, _≤_, _<_, max, _≡_, cond, List, [], eqb, pos, padded}
+use Rattle.laws.specs.Words.{ℕ, cond, List, [], eqb, pos, padded}
 use Rattle.jobs.specs.declared.{job.Job.Job, set.JobSet.JobSet, refusal.Refusal.Refusal, refusal.Check.Check}
 use Rattle.jobs.specs.{Limits.maxJobs, Refusals.onPass, Jobs.jobsOf, Jobs.setOf, Checks.checkOf, Joins.withChain, Joins.joinCheck}
-use Rattle.theory.specs.{Table.tableOf, Bounds.ert, Bounds.cja, Rounds.roundLimit, Rounds.itr, Verdicts.slacks, Verdicts.meets, Claims.Repeats}
+use Rattle.theory.specs.{Table.tableOf, Bounds.ert, Bounds.cja, Rounds.itr, Verdicts.slacks, Verdicts.meets}
 use Rattle.analysis.specs.declared.{answer.Bounds.Bounds, answer.Itr.Itr, answer.Slacks.Slacks, answer.Figures.Figures, answer.Verdict.Verdict, answer.Admission.Admission}
 
 -- A figure of each job in an answer; none on a refusal.
@@ -59,12 +59,3 @@ admissionOf old new algorithm =
     let joined = withChain (jobsOf old) (jobsOf new) in
     let verdict = onPass (joinCheck (jobsOf old) (jobsOf new)) Verdict.Refused (verdictBy joined algorithm) in
     record { verdict = verdict; set = elim verdict [ Verdict.Yes ↦ setOf joined | Verdict.No ↦ old | Verdict.Refused refusal ↦ old ] }
-
--- `itr-rounds`: the number of rounds in the ITR answer of an accepted set of n jobs is that of the first round whose bounds equal the previous ones; it is
--- at most n × n × (n − 1) + 2, and at most n where there is a job.
-abbrev pub RoundsCounted : Type 0
-RoundsCounted =
-    (set : JobSet) → checkOf (jobsOf set) ≡ Check.Passed →
-    let t = tableOf (jobsOf set) in
-    let rounds = itrOf set .rounds in
-    Repeats t rounds × ((n : ℕ) → n < rounds → Repeats t n → ⊥) × (rounds ≤ roundLimit t) × (rounds ≤ max 1 (t .count))

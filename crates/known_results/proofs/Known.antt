@@ -20,14 +20,14 @@ use Rattle.theory.specs.Bounds.{ertRule, interferenceAt, ert, demand, lowest, p
 use Rattle.theory.specs.Rounds.{itrStart, overlap, round, sameBounds, settle, roundLimit, itr}
 use Rattle.theory.specs.Verdicts.{slack, slacks, meets}
 use Rattle.theory.specs.Claims.{Demand3}
-use Rattle.theory.proofs.Claims.{demand-3}
+use Rattle.theory.proofs.Claims.{claims}
 use Rattle.machine.specs.States.{lastTime, complete, predecessorComplete, ready, allComplete}
 use Rattle.machine.specs.Times.{inRange, timesFit, machineCheck}
 use Rattle.machine.specs.Pick.{outranks, better, bestUpTo, pick}
 use Rattle.machine.specs.Steps.{next}
 use Rattle.machine.specs.Traces.{noted, rows}
 use Rattle.machine.proofs.Forward.{Carried, onward, carried, run-carried, trace-carried}
-use Rattle.known_results.specs.Cases.{KnownRun, runWith, Known, knownAt, Case, jobsIn, byDefinition, minus, p1, p2, p3, p4With3, p4, p5, p6With4, p6With6, p6, p7, p8, cases}
+use Rattle.known_results.specs.Cases.{KnownRun, runWith, Known, knownAt, Case, jobsIn, byDefinition, minus, p1, p4, p5, p6, p7, p8, cases}
 
 -- ---- runs
 -- what ticks carried forward give of a run
@@ -41,6 +41,21 @@ unfolding runWith
 settled-run js r passed early done known =
     rw (run-carried js (r .0) passed (r .2) early done, trace-carried js (r .0) passed (r .2) early done) known
 
+-- all that `settled-run` asks, of each run
+EachSettled : List Job → List KnownRun → Type 0
+EachSettled js [] = Unit {0}
+EachSettled js (r ∷ rs) =
+    (machineCheck js (r .0) ≡ Passed)
+    × (r .2 ≤ lastTime)
+    × (allComplete (r .0) (carried (tableOf js) (r .0) (r .2) .state .work) (length js) ≡ true)
+    × (runBy js (r .0) (carried (tableOf js) (r .0) (r .2)) ≡ r)
+    × EachSettled js rs
+
+settled-runs : (js : List Job) (rs : List KnownRun) → EachSettled js rs → map (λ (r : KnownRun). runWith js (r .0)) rs ≡ rs
+unfolding EachSettled
+settled-runs js [] each = refl
+settled-runs js (r ∷ rs) each = rw (settled-run js r (each .0) (each .1) (each .2) (each .3), settled-runs js rs (each .4))
+
 -- ---- the table
 -- what is known of the job at a place, by lists of ERT, CJA and ITR bounds
 abbrev knownBy : List Job → List ℕ → List ℕ → List ℕ → ℕ → Known
@@ -53,43 +68,43 @@ known-by js by-ert by-cja by-itr = λ k. knownBy js (by-ert k) (by-cja k) (by-it
 
 -- the bounds of a case, as they are known
 abbrev ertIn : Case → List ℕ
-ertIn c = map (λ (j : Known). j .3) (c .jobs)
+ertIn c = map (λ (j : Known). j .3) (c .0)
 
 abbrev cjaIn : Case → List ℕ
-cjaIn c = map (λ (j : Known). j .4) (c .jobs)
+cjaIn c = map (λ (j : Known). j .4) (c .0)
 
 abbrev itrIn : Case → List ℕ
-itrIn c = map (λ (j : Known). j .5) (c .jobs)
+itrIn c = map (λ (j : Known). j .5) (c .0)
 
 -- a case whose figures are known, with the bounds worked out once for all its jobs
-figures : (c : Case) → checkOf (jobsIn c) ≡ c .check → ert (tableOf (jobsIn c)) ≡ ertIn c → cja (tableOf (jobsIn c)) ≡ cjaIn c
+figures : (c : Case) → checkOf (jobsIn c) ≡ c .1 → ert (tableOf (jobsIn c)) ≡ ertIn c → cja (tableOf (jobsIn c)) ≡ cjaIn c
     → itr (tableOf (jobsIn c)) .bounds ≡ itrIn c
-    → itr (tableOf (jobsIn c)) .rounds ≡ c .rounds
-    → tabulate 0 (length (jobsIn c)) (knownBy (jobsIn c) (ertIn c) (cjaIn c) (itrIn c)) ≡ c .jobs
-    → meets (jobsIn c) (itrIn c) ≡ c .verdict
-    → map (λ (r : KnownRun). runWith (jobsIn c) (r .0)) (c .runs) ≡ c .runs
+    → itr (tableOf (jobsIn c)) .rounds ≡ c .2
+    → tabulate 0 (length (jobsIn c)) (knownBy (jobsIn c) (ertIn c) (cjaIn c) (itrIn c)) ≡ c .0
+    → meets (jobsIn c) (itrIn c) ≡ c .3
+    → EachSettled (jobsIn c) (c .4)
     → byDefinition c ≡ c
 unfolding byDefinition
 figures c check by-ert by-cja by-itr rounds jobs verdict runs =
-    rw (known-by (jobsIn c) by-ert by-cja by-itr, jobs, check, rounds, by-itr, verdict, runs)
+    rw (known-by (jobsIn c) by-ert by-cja by-itr, jobs, check, rounds, by-itr, verdict, settled-runs (jobsIn c) (c .4) runs)
 
 first-and-rest : {A : Type 0} {x y : A} {xs ys : List A} → x ≡ y → xs ≡ ys → x ∷ xs ≡ y ∷ ys
 first-and-rest e f = rw (e, f)
 
 pub known-results : map byDefinition cases ≡ cases
-unfolding urgencyOf tabulate sumBelow greatest lastOf isNext inLimits recordCheck recordsCheck checkOf joined effectiveEarliest openBlock largestBlock interference ertRule interferenceAt ert demand lowest pairBound largestPair cjaWith cja itrStart overlap round sameBounds settle roundLimit itr slacks meets everyBelow inRange timesFit machineCheck complete predecessorComplete ready outranks better bestUpTo pick next noted rows onward carried
+unfolding EachSettled urgencyOf tabulate sumBelow greatest lastOf isNext inLimits recordCheck recordsCheck checkOf joined effectiveEarliest openBlock largestBlock interference ertRule interferenceAt ert demand lowest pairBound largestPair cjaWith cja itrStart overlap round sameBounds settle roundLimit itr slacks meets everyBelow inRange timesFit machineCheck complete predecessorComplete ready outranks better bestUpTo pick next noted rows onward carried
 known-results =
-    first-and-rest (figures p1 refl refl refl refl refl refl refl (first-and-rest (settled-run (jobsIn p1) p2 refl (omega arith) refl refl) (first-and-rest (settled-run (jobsIn p1) p3 refl (omega arith) refl refl) refl)))
-    (first-and-rest (figures (p4 12 (pos 0) true) refl refl refl refl refl refl refl (first-and-rest (settled-run (jobsIn (p4 12 (pos 0) true)) p4With3 refl (omega arith) refl refl) refl))
-    (first-and-rest (figures (p4 11 (minus 1) false) refl refl refl refl refl refl refl (first-and-rest (settled-run (jobsIn (p4 11 (minus 1) false)) p4With3 refl (omega arith) refl refl) refl))
-    (first-and-rest (figures p5 refl refl refl refl refl refl refl refl)
-    (first-and-rest (figures p6 refl refl refl refl refl refl refl (first-and-rest (settled-run (jobsIn p6) p6With4 refl (omega arith) refl refl) (first-and-rest (settled-run (jobsIn p6) p6With6 refl (omega arith) refl refl) refl)))
-    (first-and-rest (figures p7 refl refl refl refl refl refl refl refl)
-    (first-and-rest (figures p8 refl refl refl refl refl refl refl refl) refl))))))
+    first-and-rest (figures p1 refl refl refl refl refl refl refl (refl, omega arith, refl, refl, (refl, omega arith, refl, refl, tt)))
+    (first-and-rest (figures (p4 12 (pos 0) true) refl refl refl refl refl refl refl (refl, omega arith, refl, refl, tt))
+    (first-and-rest (figures (p4 11 (minus 1) false) refl refl refl refl refl refl refl (refl, omega arith, refl, refl, tt))
+    (first-and-rest (figures p5 refl refl refl refl refl refl refl tt)
+    (first-and-rest (figures p6 refl refl refl refl refl refl refl (refl, omega arith, refl, refl, (refl, omega arith, refl, refl, tt)))
+    (first-and-rest (figures p7 refl refl refl refl refl refl refl tt)
+    (first-and-rest (figures p8 refl refl refl refl refl refl refl tt) refl))))))
 
 pub p1-accepted : checkOf (jobsIn p1) ≡ Passed
 unfolding lastOf isNext inLimits recordCheck recordsCheck checkOf
 p1-accepted = refl
 
 pub p1-demand-3 : Demand3 (tableOf (jobsIn p1))
-p1-demand-3 = demand-3 (jobsIn p1) p1-accepted
+p1-demand-3 = claims (jobsIn p1) p1-accepted .demand-3

@@ -26,32 +26,20 @@ knownAt js i =
     (jobAt js i, t .earliest i, interferenceAt t i, boundAt (ert t) i, boundAt (cja t) i, boundAt (itr t .bounds) i, getD (slacks js) i (pos 0))
 
 -- A table and what is known of it: its jobs, its check, ITR's rounds and verdict, and runs.
-pub record Case : Type 0 where
-  pub jobs : List Known
-  pub check : Check
-  pub rounds : ℕ
-  pub verdict : Bool
-  pub runs : List KnownRun
+abbrev pub Case : Type 0
+Case = List Known × Check × ℕ × Bool × List KnownRun
 
 -- The jobs of a case.
 abbrev pub jobsIn : Case → List Job
-jobsIn c = map (λ (j : Known). j .0) (c .jobs)
+jobsIn c = map (λ (j : Known). j .0) (c .0)
 
 -- A case with every answer worked out by the definitions.
 unfoldable pub byDefinition : Case → Case
 byDefinition c =
     let js = jobsIn c in
-    record {
-      jobs = tabulate 0 (length js) (knownAt js);
-      check = checkOf js;
-      rounds = itr (tableOf js) .rounds;
-      verdict = meets js (itr (tableOf js) .bounds);
-      runs = map (λ (r : KnownRun). runWith js (r .0)) (c .runs);
-    }
-
--- An accepted table.
-abbrev pub accepted : List Known → ℕ → Bool → List KnownRun → Case
-accepted jobs rounds verdict runs = record { jobs = jobs; check = Check.Passed; rounds = rounds; verdict = verdict; runs = runs }
+    let answer = itr (tableOf js) in
+    let runs = map (λ (r : KnownRun). runWith js (r .0)) (c .4) in
+    (tabulate 0 (length js) (knownAt js), checkOf js, answer .rounds, meets js (answer .bounds), runs)
 
 -- A slack below zero.
 abbrev pub minus : ℕ → ℤ
@@ -81,46 +69,46 @@ p3 = (
 
 -- P1: two chains, with deadlines of which one is missed.
 abbrev pub p1 : Case
-p1 =
-    accepted
-    ((job 1 1 0 1 20 40 60, 0, 60, 100, 100, 50, pos 10)
-    ∷ (job 1 2 20 3 5 10 60, 20, 0, 110, 110, 60, pos 0)
-    ∷ (job 1 3 75 1 40 50 170, 75, 60, 220, 185, 175, minus 5)
-    ∷ (job 1 4 130 3 85 85 260, 130, 0, 305, 270, 260, pos 0)
-    ∷ (job 2 1 30 2 10 10 50, 30, 85, 125, 125, 50, pos 0)
-    ∷ (job 2 2 60 2 50 50 120, 60, 85, 260, 195, 110, pos 10)
-    ∷ []) 2 false (p2 ∷ p3 ∷ [])
+p1 = (
+  (job 1 1 0 1 20 40 60, 0, 60, 100, 100, 50, pos 10)
+      ∷ (job 1 2 20 3 5 10 60, 20, 0, 110, 110, 60, pos 0)
+      ∷ (job 1 3 75 1 40 50 170, 75, 60, 220, 185, 175, minus 5)
+      ∷ (job 1 4 130 3 85 85 260, 130, 0, 305, 270, 260, pos 0)
+      ∷ (job 2 1 30 2 10 10 50, 30, 85, 125, 125, 50, pos 0)
+      ∷ (job 2 2 60 2 50 50 120, 60, 85, 260, 195, 110, pos 10)
+      ∷ [],
+  Check.Passed,
+  2,
+  false,
+  p2 ∷ p3 ∷ [],
+)
 
--- Before its release the machine is idle.
-abbrev pub p4With3 : KnownRun
-p4With3 = (3 ∷ [], 8 ∷ [], 8, row 1 1 5 8)
-
--- P4: one job, with the deadline that its bound meets and with the one before.
+-- P4: one job, with the deadline that its bound meets and with the one before; before its release the machine is idle.
 abbrev pub p4 : ℕ → ℤ → Bool → Case
-p4 deadline slack verdict = accepted ((job 1 1 5 1 3 7 deadline, 5, 0, 12, 12, 12, slack) ∷ []) 1 verdict (p4With3 ∷ [])
+p4 deadline slack verdict =
+    ((job 1 1 5 1 3 7 deadline, 5, 0, 12, 12, 12, slack) ∷ [], Check.Passed, 1, verdict, (3 ∷ [], 8 ∷ [], 8, row 1 1 5 8) ∷ [])
 
 -- P5: equals in two chains.
 abbrev pub p5 : Case
-p5 = accepted ((job 1 1 0 1 4 4 8, 0, 4, 8, 8, 8, pos 0) ∷ (job 2 1 0 1 4 4 8, 0, 4, 8, 8, 8, pos 0) ∷ []) 2 true []
+p5 = ((job 1 1 0 1 4 4 8, 0, 4, 8, 8, 8, pos 0) ∷ (job 2 1 0 1 4 4 8, 0, 4, 8, 8, 8, pos 0) ∷ [], Check.Passed, 2, true, [])
 
--- The second job runs at its effective release, and later where the first takes its most time.
-abbrev pub p6With4 : KnownRun
-p6With4 = (4 ∷ 2 ∷ [], 4 ∷ 6 ∷ [], 6, row 1 1 0 4 ++ row 1 2 4 6)
-
-abbrev pub p6With6 : KnownRun
-p6With6 = (6 ∷ 2 ∷ [], 6 ∷ 8 ∷ [], 8, row 1 1 0 6 ++ row 1 2 6 8)
-
--- P6: a later job's effective release.
+-- P6: a later job's effective release, at which it runs, and later where the first takes its most time.
 abbrev pub p6 : Case
-p6 = accepted ((job 1 1 0 1 4 6 6, 0, 0, 6, 6, 6, pos 0) ∷ (job 1 2 1 1 2 2 9, 4, 0, 8, 8, 8, pos 1) ∷ []) 1 true (p6With4 ∷ p6With6 ∷ [])
+p6 = (
+  (job 1 1 0 1 4 6 6, 0, 0, 6, 6, 6, pos 0) ∷ (job 1 2 1 1 2 2 9, 4, 0, 8, 8, 8, pos 1) ∷ [],
+  Check.Passed,
+  1,
+  true,
+  (4 ∷ 2 ∷ [], 4 ∷ 6 ∷ [], 6, row 1 1 0 4 ++ row 1 2 4 6) ∷ (6 ∷ 2 ∷ [], 6 ∷ 8 ∷ [], 8, row 1 1 0 6 ++ row 1 2 6 8) ∷ [],
+)
 
 -- P7: spans that touch.
 abbrev pub p7 : Case
-p7 = accepted ((job 1 1 0 1 5 5 5, 0, 3, 8, 8, 5, pos 0) ∷ (job 2 1 5 2 3 3 8, 5, 0, 8, 8, 8, pos 0) ∷ []) 1 true []
+p7 = ((job 1 1 0 1 5 5 5, 0, 3, 8, 8, 5, pos 0) ∷ (job 2 1 5 2 3 3 8, 5, 0, 8, 8, 8, pos 0) ∷ [], Check.Passed, 1, true, [])
 
 -- P8: spans that overlap.
 abbrev pub p8 : Case
-p8 = accepted ((job 1 1 0 1 5 5 5, 0, 3, 8, 8, 8, minus 3) ∷ (job 2 1 4 2 3 3 8, 4, 0, 7, 7, 7, pos 1) ∷ []) 2 false []
+p8 = ((job 1 1 0 1 5 5 5, 0, 3, 8, 8, 8, minus 3) ∷ (job 2 1 4 2 3 3 8, 4, 0, 7, 7, 7, pos 1) ∷ [], Check.Passed, 2, false, [])
 
 -- The table of cases.
 abbrev pub cases : List Case

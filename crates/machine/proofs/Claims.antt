@@ -19,7 +19,7 @@ use Rattle.theory.specs.Runs.{Entry, idle, runs, names, Complete}
 use Rattle.theory.proofs.AcceptedSets.{accepted-well}
 use Rattle.theory.proofs.Releases.{earliest-latest}
 use Rattle.theory.proofs.Work.{named, legal-at, complete-stays}
-use Rattle.theory.proofs.Claims.{demand-3}
+use Rattle.theory.proofs.Claims.{claims}
 use Rattle.machine.specs.declared.state.State.{State}
 use Rattle.machine.specs.declared.step.Ticked.{Ticked}
 use Rattle.machine.specs.declared.step.Ticked.the-variants.{Finished}
@@ -102,7 +102,7 @@ module _ (js : List Job) (times : List ℕ) (passed : machineCheck js times ≡ 
       let rel = released-by js times passed in
       let at = run-entry t times lastRelease few rel (suc m) m (omega arith) in
       let done : Complete times (tabulate 0 (suc m) (entry t times)) u (boundAt (itr t .bounds) u)
-      = demand-3 js (set-passed js times passed) .by-itr u l (t .earliest) times (tabulate 0 (suc m) (entry t times)) is (omega (arith, run-length t times lastRelease few rel (suc m))) in
+      = claims js (set-passed js times passed) .demand-3 .by-itr u l (t .earliest) times (tabulate 0 (suc m) (entry t times)) is (omega (arith, run-length t times lastRelease few rel (suc m))) in
       absurd (legal-at well is m u (at ∙ e) .1 .unfinished (complete-stays well is u (boundAt (itr t .bounds) u) m late done)))
       (λ early. early)
 

@@ -22,7 +22,7 @@ use Rattle.theory.specs.Table.{tableOf}
 use Rattle.theory.specs.Bounds.{boundAt, ert, cja}
 use Rattle.theory.specs.Rounds.{itr}
 use Rattle.theory.specs.Verdicts.{slack, slacks}
-use Rattle.theory.proofs.Claims.{bounds-limited}
+use Rattle.theory.proofs.Claims.{all-limited}
 use Rattle.machine.specs.declared.trace.Span.{Span}
 use Rattle.machine.specs.States.{lastTime}
 use Rattle.machine.specs.Traces.{row, rows, traced}
@@ -88,7 +88,7 @@ module _ (js : List Job) (passed : checkOf js ≡ Passed) where
       subst (λ (z : ℤ). length (signed z) ≤ 12)
       (sym (getD-tabulate 0 (length js) (λ k. slack (jobAt js k .deadline) (boundAt (itr (tableOf js) .bounds) k)) (pos 0) i l))
       (signed-within 10 _ (small-difference (jobAt js (0 + i) .deadline) (boundAt (itr (tableOf js) .bounds) (0 + i)) (omega (arith, ok .limits (0 + i) (omega arith) .deadline))
-      (omega (arith, bounds-limited js passed .by-itr (0 + i) (omega arith)))))
+      (omega (arith, all-limited js passed .by-itr (0 + i) (omega arith)))))
 
   -- ---- the rows of bounds
   abbrev bounds-row : ℕ → List ℕ
@@ -98,7 +98,7 @@ module _ (js : List Job) (passed : checkOf js ≡ Passed) where
   bounds-row-within : (i : ℕ) → i < length js → length (bounds-row i) ≤ 58
   bounds-row-within i l =
       let t = tableOf js in
-      let low = bounds-limited js passed in
+      let low = all-limited js passed in
       let e = getD (ert t) i 0 in
       let c = getD (cja t) i 0 in
       let r = getD (itr t .bounds) i 0 in

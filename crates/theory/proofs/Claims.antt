@@ -13,10 +13,10 @@ use Rattle.jobs.specs.Limits.{maxJobs, maxRelease, maxTime}
 use Rattle.jobs.specs.Checks.{checkOf}
 use Rattle.jobs.proofs.Accepted.{accepted}
 use Rattle.theory.specs.Table.{Table, tableOf}
-use Rattle.theory.specs.Bounds.{boundAt, ert, boundLimit}
+use Rattle.theory.specs.Bounds.{boundAt, ert, cja, boundLimit}
 use Rattle.theory.specs.Rounds.{itr}
-use Rattle.theory.specs.Runs.{timeAt}
-use Rattle.theory.specs.Claims.{EveryAccepted, Compared, Demand3, Determined, Runnable, Bounded, FewRounds, Least, NoLater, Unmoved}
+use Rattle.theory.specs.Runs.{timeAt, Times, Releases}
+use Rattle.theory.specs.Claims.{Compared, Demand3, EveryAccepted}
 use Rattle.theory.proofs.WellFormed.{WellFormed}
 use Rattle.theory.proofs.AcceptedSets.{accepted-ordered, accepted-well, accepted-most, accepted-latest}
 use Rattle.theory.proofs.Monotone.{cja-le-ert}
@@ -30,13 +30,8 @@ use Rattle.theory.proofs.PartBounds.{part-no-later}
 use Rattle.theory.proofs.LeastUrgent.{part-unmoved}
 use Rattle.theory.proofs.Removal.{withoutChain, oldPlace, LeastUrgent, removal-no-later, removal-unmoved}
 
--- what holds of every well-formed table holds of every accepted set's
-of-well-formed : (Claim : Table → Type 0) → ((t : Table) → WellFormed t → Claim t) → EveryAccepted Claim
-of-well-formed Claim claim js passed = claim (tableOf js) (accepted-well js (accepted js passed))
-
-pub demand-3 : EveryAccepted Demand3
-demand-3 =
-    of-well-formed Demand3 (λ t well.
+whole-demand : (t : Table) → WellFormed t → Demand3 t
+whole-demand t well =
     record {
       by-ert = ert-holds t well;
       by-cja = cja-holds t well;
@@ -45,49 +40,55 @@ demand-3 =
       cja-ert = cja-le-ert t (well .ordered);
       rounds = rounds-limit t;
       settled = itr-settled t;
-    })
-
-pub rounds-determined : EveryAccepted Determined
-rounds-determined = of-well-formed Determined (λ t well answer h. settled-unique t answer (itr t) h (itr-settled t))
-
-pub runs-exist : EveryAccepted Runnable
-runs-exist =
-    of-well-formed Runnable (λ t well.
-    let most : (u : ℕ) → u < t .count → timeAt (tabulate 0 (t .count) (t .most)) u ≡ t .most u
-    = (λ u l. unfold timeAt in getD-tabulate 0 (t .count) (t .most) 0 u l ∙ ap (t .most) (zero-add u)) in
-    record {
-      times = tabulate 0 (t .count) (t .most);
-      release = t .earliest;
-      in-range = record { each = length-tabulate 0 (t .count) (t .most); low = λ u l. omega (arith, most u l, well .range u l); high = λ u l. omega (arith, most u l) };
-      in-time = record { early = λ u l. omega arith; late = λ u l. well .releases u l };
-      each-length = run-of t;
-    })
-
-pub bounds-limited : EveryAccepted Bounded
-bounds-limited js passed =
-    let ok = accepted js passed in
-    let t = tableOf js in
-    let well = accepted-well js ok in
-    let limit : 4 * (maxRelease + maxJobs * maxTime) + suc maxJobs * suc maxJobs * maxTime < 4 * boundLimit = lit< tt in
-    let by-ert : (i : ℕ) → i < t .count → boundAt (ert t) i < boundLimit
-    = (λ i l. omega (arith, limit, ert-limit t maxJobs (maxRelease + maxJobs * maxTime) maxTime (ok .few) (accepted-latest js ok) (accepted-most js ok) i l)) in
-    record {
-      by-ert = by-ert;
-      by-cja = λ i l. omega (arith, by-ert i l, cja-le-ert t (well .ordered) i l);
-      by-itr = λ i l. omega (arith, by-ert i l, cja-le-ert t (well .ordered) i l, itr-le-cja t i l);
     }
 
-pub few-rounds : EveryAccepted FewRounds
-few-rounds = of-well-formed FewRounds rounds-few
+-- all most times and the earliest releases
+choice : (t : Table) → WellFormed t → (times : List ℕ) × (release : ℕ → ℕ) × Times t times × Releases t release
+choice t well =
+    let most : (u : ℕ) → u < t .count → timeAt (tabulate 0 (t .count) (t .most)) u ≡ t .most u
+    = (λ u l. unfold timeAt in getD-tabulate 0 (t .count) (t .most) 0 u l ∙ ap (t .most) (zero-add u)) in (
+      tabulate 0 (t .count) (t .most),
+      t .earliest,
+      record { each = length-tabulate 0 (t .count) (t .most); low = λ u l. omega (arith, most u l, well .range u l); high = λ u l. omega (arith, most u l) },
+      record { early = λ u l. omega arith; late = λ u l. well .releases u l },
+    )
 
-pub itr-least : EveryAccepted Least
-itr-least = of-well-formed Least (λ t well. itr-below t)
+ert-limited : (js : List Job) → checkOf js ≡ Passed → (i : ℕ) → i < tableOf js .count → boundAt (ert (tableOf js)) i < boundLimit
+ert-limited js passed i l =
+    let ok = accepted js passed in
+    let limit : 4 * (maxRelease + maxJobs * maxTime) + suc maxJobs * suc maxJobs * maxTime < 4 * boundLimit = lit< tt in
+    omega (arith, limit, ert-limit (tableOf js) maxJobs (maxRelease + maxJobs * maxTime) maxTime (ok .few) (accepted-latest js ok) (accepted-most js ok) i l)
 
-pub taken-off : EveryAccepted NoLater
-taken-off = of-well-formed NoLater (λ t well part place number h. part-no-later h (well .ordered))
+pub claims : EveryAccepted
+claims js passed =
+    let t = tableOf js in
+    let well = accepted-well js (accepted js passed) in
+    record {
+      demand-3 = whole-demand t well;
+      rounds-determined = λ answer h. settled-unique t answer (itr t) h (itr-settled t);
+      choices-exist = choice t well;
+      runs-exist = run-of t;
+      bounds-limited = ert-limited js passed;
+      few-rounds = rounds-few t well;
+      itr-least = itr-below t;
+      taken-off = λ part place number h. part-no-later h (well .ordered);
+      least-urgent = λ part place number h less. part-unmoved h (well .ordered) less;
+    }
 
-pub least-urgent : EveryAccepted Unmoved
-least-urgent = of-well-formed Unmoved (λ t well part place number h less. part-unmoved h (well .ordered) less)
+-- the limit on ERT's bounds holds for the others, which are at most these
+pub record Limited (t : Table) : Type 0 where
+  pub by-ert : (i : ℕ) → i < t .count → boundAt (ert t) i < boundLimit
+  pub by-cja : (i : ℕ) → i < t .count → boundAt (cja t) i < boundLimit
+  pub by-itr : (i : ℕ) → i < t .count → boundAt (itr t .bounds) i < boundLimit
+
+pub all-limited : (js : List Job) → checkOf js ≡ Passed → Limited (tableOf js)
+all-limited js passed =
+    let all = claims js passed in
+    record {
+      by-ert = all .bounds-limited;
+      by-cja = λ i l. omega (arith, all .bounds-limited i l, all .demand-3 .cja-ert i l);
+      by-itr = λ i l. omega (arith, all .bounds-limited i l, all .demand-3 .cja-ert i l, all .demand-3 .itr-cja i l);
+    }
 
 -- ---- one chain taken off a list of jobs
 pub chain-taken-off : (c : ℕ) (js : List Job) → checkOf js ≡ Passed → Compared _≤_ (tableOf (withoutChain c js)) (tableOf js) (oldPlace c js)

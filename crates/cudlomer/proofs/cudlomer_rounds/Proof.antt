@@ -14,7 +14,7 @@ use Rattle.table.proofs.Accepting.{read-check, read-jobs, read-passed}
 use Rattle.jobs.proofs.Accepted.{accepted}
 use Rattle.theory.specs.Table.{tableOf}
 use Rattle.theory.specs.Rounds.{itr}
-use Rattle.theory.proofs.Claims.{few-rounds}
+use Rattle.theory.proofs.Claims.{claims}
 use Rattle.analysis.specs.declared.answer.Itr.{Itr}
 use Rattle.analysis.specs.Answers.{itrOf}
 use Rattle.cudlomer.specs.Codes.{roundsOfTable}
@@ -33,7 +33,7 @@ is-rounds c = ap (λ (a : Itr). a .rounds) (rw (accepts (c .before)) at (c .itr 
 within : (c : tie.After-itr) → c .itr .result .rounds ≤ maxJobs
 within c =
     let js = jobsOf (c .before .before .before .read .result .set) in
-    omega (arith, is-rounds c, few-rounds js (accepts (c .before)), accepted js (accepts (c .before)) .few)
+    omega (arith, is-rounds c, claims js (accepts (c .before)) .few-rounds, accepted js (accepts (c .before)) .few)
 
 read-requires : tie.Need-read-requires
 read-requires c κs = search needs
