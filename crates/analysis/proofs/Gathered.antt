@@ -12,7 +12,8 @@ use Rattle.laws.proofs.Filling.{filled-none, filled-next, filled-at}
 use Rattle.jobs.specs.declared.job.Job.{Job}
 use Rattle.jobs.specs.Limits.{maxJobs}
 use Rattle.jobs.specs.Jobs.{jobAt, urgencyOf}
-use Rattle.theory.specs.Table.{Table, effectiveEarliest, given, tableOf}
+use Rattle.theory.specs.Table.{Table, tableOf}
+use Rattle.theory.proofs.Given.{effectiveEarliest, given}
 use Rattle.theory.proofs.WellFormed.{Ordered, chain-le}
 use Rattle.analysis.specs.declared.columns.Columns.{Columns}
 use Rattle.theory.proofs.Predecessors.{notBefore, release-by}

@@ -10,7 +10,8 @@ use borrow.Author.Tests.{leb-true, le-leb, lt-ltb, eqb-true, eqb-false}
 use Rattle.laws.proofs.Tests.{by-test, same-test, and-left, and-right, and-both}
 use Rattle.jobs.specs.declared.job.Job.{Job}
 use Rattle.jobs.specs.Jobs.{jobAt, urgencyOf}
-use Rattle.theory.specs.Table.{Table, joined, effectiveEarliest, given, tableOf}
+use Rattle.theory.specs.Table.{Table, joined, tableOf, effectiveRelease}
+use Rattle.theory.proofs.Given.{given}
 use Rattle.theory.proofs.Rules.{first-after}
 use Rattle.theory.proofs.Releases.{release-first, release-next}
 use Rattle.machine.specs.declared.state.State.{State}
@@ -69,7 +70,7 @@ module _ (js : List Job) (times : List ℕ) (s : State) where
 
   is-leading : (u : ℕ) → follows (scanOf js times s u) (jobAt js u) u ≡ false → Leading (jobAt js u) u
   unfolding scanOf predecessorComplete joined
-  is-leading zero h = record { earliest = unfold effectiveEarliest in refl; predecessor = refl }
+  is-leading zero h = record { earliest = unfold effectiveRelease in refl; predecessor = refl }
   is-leading (suc v) h =
       let other : eqb (t .chain v) (t .chain (suc v)) ≡ false = rw (lt-ltb 0 (suc v) (omega arith)) at h in
       record {

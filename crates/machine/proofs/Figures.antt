@@ -12,7 +12,8 @@ use Rattle.jobs.specs.declared.job.Job.{Job}
 use Rattle.jobs.specs.Limits.{maxJobs, maxRelease, maxTime}
 use Rattle.jobs.specs.Jobs.{noJob, jobAt, urgencyOf}
 use Rattle.jobs.proofs.Accepted.{Accepted}
-use Rattle.theory.specs.Table.{given, tableOf}
+use Rattle.theory.specs.Table.{tableOf}
+use Rattle.theory.proofs.Given.{given}
 use Rattle.theory.proofs.Columns.{seen, Alike}
 use Rattle.theory.proofs.Prior.{prior}
 use Rattle.theory.proofs.Predecessors.{notBefore, release-by}

@@ -8,7 +8,8 @@ use Rattle.jobs.specs.declared.job.Job.{Job}
 use Rattle.jobs.specs.Limits.{maxJobs, maxRelease, maxTime}
 use Rattle.jobs.proofs.Accepted.{Follows, Accepted}
 use Rattle.jobs.specs.Jobs.{jobAt}
-use Rattle.theory.specs.Table.{given, tableOf}
+use Rattle.theory.specs.Table.{tableOf}
+use Rattle.theory.proofs.Given.{given}
 use Rattle.theory.proofs.WellFormed.{Ordered, WellFormed}
 use Rattle.theory.proofs.Releases.{release-range, release-limit, earliest-latest}
 

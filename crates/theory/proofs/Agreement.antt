@@ -12,7 +12,8 @@ use lib.ListN.{length, take, length-take}
 use lib.Seq.{ext-getD, getD-take}
 use Rattle.jobs.specs.declared.job.Job.{Job}
 use Rattle.jobs.specs.Jobs.{jobAt, urgencyOf}
-use Rattle.theory.specs.Table.{Table, effective, latestOf, given, tableOf}
+use Rattle.theory.specs.Table.{Table, latestOf, tableOf}
+use Rattle.theory.proofs.Given.{effective, given}
 use Rattle.theory.specs.Bounds.{boundAt, ert, cja}
 use Rattle.theory.specs.Rounds.{after, Answer, itr}
 use Rattle.theory.specs.Parts.{Part, LessUrgent}

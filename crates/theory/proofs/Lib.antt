@@ -1,3 +1,4 @@
+pub mod Given
 pub mod WellFormed
 pub mod Rules
 pub mod Chains

@@ -5,7 +5,8 @@ use mathlib.Core.Bool.{cond}
 use native.Mathlib.Omega.{arith}
 use lib.Dec.{eqb}
 use Rattle.laws.proofs.Tests.{by-test}
-use Rattle.theory.specs.Table.{Table, joined, effectiveEarliest}
+use Rattle.theory.specs.Table.{Table, joined, effectiveRelease}
+use Rattle.theory.proofs.Given.{effectiveEarliest}
 use Rattle.theory.specs.Bounds.{ertRule}
 use Rattle.theory.proofs.Prior.{prior}
 
@@ -22,7 +23,7 @@ module _ (t : Table) where
 
   pub release-by : (i : ℕ)
       → effectiveEarliest t i ≡ notBefore (prior (t .chain) i) (t .chain i) (t .earliest i) (prior (λ v. effectiveEarliest t v + t .least v) i)
-  unfolding effectiveEarliest joined notBefore prior
+  unfolding effectiveRelease joined notBefore prior
   release-by zero = by-test (eqb 0 (t .chain 0)) (λ e. rw e (omega arith)) (λ e. rw e (omega arith))
   release-by (suc i) = by-test (eqb (t .chain i) (t .chain (suc i))) (λ e. rw e (omega arith)) (λ e. rw e (omega arith))
 

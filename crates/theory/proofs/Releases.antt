@@ -6,7 +6,8 @@ use native.Mathlib.Omega.{arith}
 use borrow.Author.Tests.{eq-eqb, ne-eqb}
 use Rattle.laws.proofs.Tests.{by-equal}
 use Rattle.jobs.specs.declared.job.Job.{Job}
-use Rattle.theory.specs.Table.{Table, joined, effectiveEarliest, effective, tableOf}
+use Rattle.theory.specs.Table.{Table, joined, tableOf, effectiveRelease}
+use Rattle.theory.proofs.Given.{effectiveEarliest, effective, given}
 use Rattle.theory.specs.Parts.{Part}
 use Rattle.theory.proofs.WellFormed.{Ordered}
 use Rattle.theory.proofs.Rules.{First, first-zero, first-after}
@@ -17,13 +18,13 @@ effectiveLatest t i = max (t .latest i) (effectiveEarliest t i)
 
 module _ (t : Table) where
   pub release-first : (i : ℕ) → First t i → effectiveEarliest t i ≡ t .earliest i
-  unfolding effectiveEarliest joined
+  unfolding effectiveRelease joined
   release-first zero first = refl
   release-first (suc i) first = rw (ne-eqb (t .chain i) (t .chain (suc i)) (first i refl))
 
   pub release-next : (i : ℕ) → t .chain i ≡ t .chain (suc i)
       → effectiveEarliest t (suc i) ≡ max (t .earliest (suc i)) (effectiveEarliest t i + t .least i)
-  unfolding effectiveEarliest joined
+  unfolding effectiveRelease joined
   release-next i e = rw (eq-eqb (t .chain i) (t .chain (suc i)) e)
 
   pub release-own : (i : ℕ) → t .earliest i ≤ effectiveEarliest t i
@@ -50,7 +51,7 @@ module _ (t : Table) where
 
 -- the table of a list of jobs
 pub earliest-latest : (js : List Job) (i : ℕ) → tableOf js .earliest i ≡ tableOf js .latest i
-earliest-latest js i = release-one _ i (omega arith)
+earliest-latest js i = release-one (given js) i (omega arith)
 
 module _ {part t : Table} {place number : ℕ → ℕ} (h : Part part t place number) (o : Ordered t) where
   earliest-same : (i : ℕ) → i < part .count → effectiveEarliest t (place i) ≡ effectiveEarliest part i

@@ -18,7 +18,8 @@ use Rattle.laws.proofs.Tests.{by-test, by-order, by-equal}
 use Rattle.jobs.specs.declared.job.Job.{Job}
 use Rattle.jobs.specs.Jobs.{jobAt, urgencyOf}
 use Rattle.jobs.specs.Joins.{renumbered}
-use Rattle.theory.specs.Table.{latestOf, given, tableOf}
+use Rattle.theory.specs.Table.{latestOf, tableOf}
+use Rattle.theory.proofs.Given.{given}
 use Rattle.theory.specs.Parts.{Part, LessUrgent}
 use Rattle.theory.specs.Claims.{Compared}
 use Rattle.theory.proofs.WellFormed.{Ordered}

@@ -19,44 +19,28 @@ pub record Table : Type 0 where
 unfoldable pub joined : Table → ℕ → Bool
 joined t i = eqb (t .chain i) (t .chain (suc i))
 
--- The effective release: of a chain's first job the given one, of a later job the larger of that and its predecessor's effective release plus least.
-unfoldable pub effectiveEarliest : Table → ℕ → ℕ
-effectiveEarliest t zero = t .earliest 0
-effectiveEarliest t (suc i) =
-    let before = effectiveEarliest t i in
-    cond (joined t i) (max (t .earliest (suc i)) (before + t .least i)) (t .earliest (suc i))
-
--- A table with its releases made effective: the latest is the given one or the effective earliest, whichever is larger, and so equal to the earliest
--- where a job is given one release.
-abbrev pub effective : Table → Table
-effective t =
-    record {
-      count = t .count;
-      chain = t .chain;
-      urgency = t .urgency;
-      least = t .least;
-      most = t .most;
-      earliest = effectiveEarliest t;
-      latest = λ i. max (t .latest i) (effectiveEarliest t i);
-    }
+-- The effective release of the job at a place, by chains, least times and given releases: of a chain's first job the given one, of a later job the
+-- larger of that and its predecessor's effective release plus least.
+unfoldable pub effectiveRelease : (ℕ → ℕ) → (ℕ → ℕ) → (ℕ → ℕ) → ℕ → ℕ
+effectiveRelease chain least release zero = release 0
+effectiveRelease chain least release (suc i) =
+    let before = effectiveRelease chain least release i in
+    cond (eqb (chain i) (chain (suc i))) (max (release (suc i)) (before + least i)) (release (suc i))
 
 -- The latest release that a job is given: its only one.
 abbrev pub latestOf : Job → ℕ
 latestOf j = j .release
 
--- The table of a list of jobs, with the releases that are given.
-abbrev pub given : List Job → Table
-given js =
+-- The table of a list of jobs. The latest release is the given one or the earliest, whichever is larger, and so the earliest where only one is given.
+abbrev pub tableOf : List Job → Table
+tableOf js =
+    let earliest = effectiveRelease (λ i. jobAt js i .chain) (λ i. jobAt js i .least) (λ i. jobAt js i .release) in
     record {
       count = length js;
       chain = λ i. jobAt js i .chain;
       urgency = λ i. urgencyOf (jobAt js i);
       least = λ i. jobAt js i .least;
       most = λ i. jobAt js i .most;
-      earliest = λ i. jobAt js i .release;
-      latest = λ i. latestOf (jobAt js i);
+      earliest = earliest;
+      latest = λ i. max (latestOf (jobAt js i)) (earliest i);
     }
-
--- The table that all bounds and runs of a list of jobs are about.
-abbrev pub tableOf : List Job → Table
-tableOf js = effective (given js)
