@@ -32,23 +32,23 @@ use Rattle.known_results.specs.Cases.{KnownRun, runWith, Known, knownAt,
 -- ---- runs
 -- what ticks carried forward give of a run
 abbrev runBy : List Job → List ℕ → Carried → KnownRun
-runBy js times c = (times, tabulate 0 (length js) (λ u. getD (c .completed) u 0), c .state .time, rows js (c .spans))
+runBy js times c = (times, (tabulate 0 (length js) (λ u. getD (c .completed) u 0), c .state .time), rows js (c .spans))
 
-settled-run : (js : List Job) (r : KnownRun) → machineCheck js (r .0) ≡ Passed → r .2 ≤ lastTime
-    → allComplete (r .0) (carried (tableOf js) (r .0) (r .2) .state .work) (length js) ≡ true
-    → runBy js (r .0) (carried (tableOf js) (r .0) (r .2)) ≡ r → runWith js (r .0) ≡ r
+settled-run : (js : List Job) (r : KnownRun) → machineCheck js (r .0) ≡ Passed → r .1 .1 ≤ lastTime
+    → allComplete (r .0) (carried (tableOf js) (r .0) (r .1 .1) .state .work) (length js) ≡ true
+    → runBy js (r .0) (carried (tableOf js) (r .0) (r .1 .1)) ≡ r → runWith js (r .0) ≡ r
 unfolding runWith
 settled-run js r passed early done known =
-    rw (run-carried js (r .0) passed (r .2) early done, trace-carried js (r .0) passed (r .2) early done) known
+    rw (run-carried js (r .0) passed (r .1 .1) early done, trace-carried js (r .0) passed (r .1 .1) early done) known
 
 -- all that `settled-run` asks, of each run
 EachSettled : List Job → List KnownRun → Type 0
 EachSettled js [] = Unit {0}
 EachSettled js (r ∷ rs) =
     (machineCheck js (r .0) ≡ Passed)
-    × (r .2 ≤ lastTime)
-    × (allComplete (r .0) (carried (tableOf js) (r .0) (r .2) .state .work) (length js) ≡ true)
-    × (runBy js (r .0) (carried (tableOf js) (r .0) (r .2)) ≡ r)
+    × (r .1 .1 ≤ lastTime)
+    × (allComplete (r .0) (carried (tableOf js) (r .0) (r .1 .1) .state .work) (length js) ≡ true)
+    × (runBy js (r .0) (carried (tableOf js) (r .0) (r .1 .1)) ≡ r)
     × EachSettled js rs
 
 settled-runs : (js : List Job) (rs : List KnownRun) → EachSettled js rs → map (λ (r : KnownRun). runWith js (r .0)) rs ≡ rs
@@ -77,16 +77,16 @@ abbrev itrIn : Case → List ℕ
 itrIn c = map (λ (j : Known). j .5) (c .0)
 
 -- a case whose figures are known, with the bounds worked out once for all its jobs
-figures : (c : Case) → checkOf (jobsIn c) ≡ c .1 → ert (tableOf (jobsIn c)) ≡ ertIn c → cja (tableOf (jobsIn c)) ≡ cjaIn c
+figures : (c : Case) → checkOf (jobsIn c) ≡ c .1 .0 → ert (tableOf (jobsIn c)) ≡ ertIn c → cja (tableOf (jobsIn c)) ≡ cjaIn c
     → itr (tableOf (jobsIn c)) .bounds ≡ itrIn c
-    → itr (tableOf (jobsIn c)) .rounds ≡ c .2
+    → itr (tableOf (jobsIn c)) .rounds ≡ c .1 .1
     → tabulate 0 (length (jobsIn c)) (knownBy (jobsIn c) (ertIn c) (cjaIn c) (itrIn c)) ≡ c .0
-    → meets (jobsIn c) (itrIn c) ≡ c .3
-    → EachSettled (jobsIn c) (c .4)
+    → meets (jobsIn c) (itrIn c) ≡ c .1 .2
+    → EachSettled (jobsIn c) (c .2)
     → byDefinition c ≡ c
 unfolding byDefinition
 figures c check by-ert by-cja by-itr rounds jobs verdict runs =
-    rw (known-by (jobsIn c) by-ert by-cja by-itr, jobs, check, rounds, by-itr, verdict, settled-runs (jobsIn c) (c .4) runs)
+    rw (known-by (jobsIn c) by-ert by-cja by-itr, jobs, check, rounds, by-itr, verdict, settled-runs (jobsIn c) (c .2) runs)
 
 first-and-rest : {A : Type 0} {x y : A} {xs ys : List A} → x ≡ y → xs ≡ ys → x ∷ xs ≡ y ∷ ys
 first-and-rest e f = rw (e, f)

@@ -5,15 +5,15 @@ use Rattle.jobs.specs.{declared.job.Job.Job, declared.refusal.Check.Check, Jobs
 use Rattle.theory.specs.{Table.tableOf, Bounds.boundAt, Bounds.interferenceAt, Bounds.ert, Bounds.cja, Rounds.itr, Verdicts.slacks, Verdicts.meets}
 use Rattle.machine.specs.{Runs.runOf, Traces.rows, Traces.traced}
 
--- Running times and what is known of the run with them: each job's completion in table order, its end, the rows of its trace.
+-- Running times and what is known of the run with them: each job's completion in table order and its end, and the rows of its trace.
 abbrev pub KnownRun : Type 0
-KnownRun = List ℕ × List ℕ × ℕ × List ℕ
+KnownRun = List ℕ × (List ℕ × ℕ) × List ℕ
 
 -- The same, by the definitions.
 unfoldable pub runWith : List Job → List ℕ → KnownRun
 runWith js times =
     let run = runOf js times in
-    (times, tabulate 0 (length js) (λ u. getD (run .completions) u 0), run .end, rows js (traced js times))
+    (times, (tabulate 0 (length js) (λ u. getD (run .completions) u 0), run .end), rows js (traced js times))
 
 -- A job with its effective release, its interference, and its columns of the bounds text: ERT, CJA, ITR, slack.
 abbrev pub Known : Type 0
@@ -25,9 +25,9 @@ knownAt js i =
     let t = tableOf js in
     (jobAt js i, t .earliest i, interferenceAt t i, boundAt (ert t) i, boundAt (cja t) i, boundAt (itr t .bounds) i, getD (slacks js) i (pos 0))
 
--- A table and what is known of it: its jobs, its check, ITR's rounds and verdict, and runs.
+-- A table and what is known of it: its jobs; its check, ITR's rounds and verdict; runs.
 abbrev pub Case : Type 0
-Case = List Known × Check × ℕ × Bool × List KnownRun
+Case = List Known × (Check × ℕ × Bool) × List KnownRun
 
 -- The jobs of a case.
 abbrev pub jobsIn : Case → List Job
@@ -38,8 +38,8 @@ unfoldable pub byDefinition : Case → Case
 byDefinition c =
     let js = jobsIn c in
     let answer = itr (tableOf js) in
-    let runs = map (λ (r : KnownRun). runWith js (r .0)) (c .4) in
-    (tabulate 0 (length js) (knownAt js), checkOf js, answer .rounds, meets js (answer .bounds), runs)
+    let runs = map (λ (r : KnownRun). runWith js (r .0)) (c .2) in
+    (tabulate 0 (length js) (knownAt js), (checkOf js, answer .rounds, meets js (answer .bounds)), runs)
 
 -- A slack below zero.
 abbrev pub minus : ℕ → ℤ
@@ -53,8 +53,7 @@ row c k from to = c ∷ k ∷ from ∷ to ∷ []
 abbrev pub p2 : KnownRun
 p2 = (
   40 ∷ 10 ∷ 50 ∷ 85 ∷ 10 ∷ 50 ∷ [],
-  50 ∷ 60 ∷ 160 ∷ 245 ∷ 40 ∷ 110 ∷ [],
-  245,
+  (50 ∷ 60 ∷ 160 ∷ 245 ∷ 40 ∷ 110 ∷ [], 245),
   row 1 1 0 30 ++ row 2 1 30 40 ++ row 1 1 40 50 ++ row 1 2 50 60 ++ row 2 2 60 110 ++ row 1 3 110 160 ++ row 1 4 160 245,
 )
 
@@ -62,8 +61,7 @@ p2 = (
 abbrev pub p3 : KnownRun
 p3 = (
   30 ∷ 10 ∷ 50 ∷ 85 ∷ 10 ∷ 50 ∷ [],
-  30 ∷ 40 ∷ 160 ∷ 245 ∷ 50 ∷ 110 ∷ [],
-  245,
+  (30 ∷ 40 ∷ 160 ∷ 245 ∷ 50 ∷ 110 ∷ [], 245),
   row 1 1 0 30 ++ row 1 2 30 40 ++ row 2 1 40 50 ++ row 2 2 60 110 ++ row 1 3 110 160 ++ row 1 4 160 245,
 )
 
@@ -77,38 +75,34 @@ p1 = (
       ∷ (job 2 1 30 2 10 10 50, 30, 85, 125, 125, 50, pos 0)
       ∷ (job 2 2 60 2 50 50 120, 60, 85, 260, 195, 110, pos 10)
       ∷ [],
-  Check.Passed,
-  2,
-  false,
+  (Check.Passed, 2, false),
   p2 ∷ p3 ∷ [],
 )
 
 -- P4: one job, with the deadline that its bound meets and with the one before; before its release the machine is idle.
 abbrev pub p4 : ℕ → ℤ → Bool → Case
 p4 deadline slack verdict =
-    ((job 1 1 5 1 3 7 deadline, 5, 0, 12, 12, 12, slack) ∷ [], Check.Passed, 1, verdict, (3 ∷ [], 8 ∷ [], 8, row 1 1 5 8) ∷ [])
+    ((job 1 1 5 1 3 7 deadline, 5, 0, 12, 12, 12, slack) ∷ [], (Check.Passed, 1, verdict), (3 ∷ [], (8 ∷ [], 8), row 1 1 5 8) ∷ [])
 
 -- P5: equals in two chains.
 abbrev pub p5 : Case
-p5 = ((job 1 1 0 1 4 4 8, 0, 4, 8, 8, 8, pos 0) ∷ (job 2 1 0 1 4 4 8, 0, 4, 8, 8, 8, pos 0) ∷ [], Check.Passed, 2, true, [])
+p5 = ((job 1 1 0 1 4 4 8, 0, 4, 8, 8, 8, pos 0) ∷ (job 2 1 0 1 4 4 8, 0, 4, 8, 8, 8, pos 0) ∷ [], (Check.Passed, 2, true), [])
 
 -- P6: a later job's effective release, at which it runs, and later where the first takes its most time.
 abbrev pub p6 : Case
 p6 = (
   (job 1 1 0 1 4 6 6, 0, 0, 6, 6, 6, pos 0) ∷ (job 1 2 1 1 2 2 9, 4, 0, 8, 8, 8, pos 1) ∷ [],
-  Check.Passed,
-  1,
-  true,
-  (4 ∷ 2 ∷ [], 4 ∷ 6 ∷ [], 6, row 1 1 0 4 ++ row 1 2 4 6) ∷ (6 ∷ 2 ∷ [], 6 ∷ 8 ∷ [], 8, row 1 1 0 6 ++ row 1 2 6 8) ∷ [],
+  (Check.Passed, 1, true),
+  (4 ∷ 2 ∷ [], (4 ∷ 6 ∷ [], 6), row 1 1 0 4 ++ row 1 2 4 6) ∷ (6 ∷ 2 ∷ [], (6 ∷ 8 ∷ [], 8), row 1 1 0 6 ++ row 1 2 6 8) ∷ [],
 )
 
 -- P7: spans that touch.
 abbrev pub p7 : Case
-p7 = ((job 1 1 0 1 5 5 5, 0, 3, 8, 8, 5, pos 0) ∷ (job 2 1 5 2 3 3 8, 5, 0, 8, 8, 8, pos 0) ∷ [], Check.Passed, 1, true, [])
+p7 = ((job 1 1 0 1 5 5 5, 0, 3, 8, 8, 5, pos 0) ∷ (job 2 1 5 2 3 3 8, 5, 0, 8, 8, 8, pos 0) ∷ [], (Check.Passed, 1, true), [])
 
 -- P8: spans that overlap.
 abbrev pub p8 : Case
-p8 = ((job 1 1 0 1 5 5 5, 0, 3, 8, 8, 8, minus 3) ∷ (job 2 1 4 2 3 3 8, 4, 0, 7, 7, 7, pos 1) ∷ [], Check.Passed, 2, false, [])
+p8 = ((job 1 1 0 1 5 5 5, 0, 3, 8, 8, 8, minus 3) ∷ (job 2 1 4 2 3 3 8, 4, 0, 7, 7, 7, pos 1) ∷ [], (Check.Passed, 2, false), [])
 
 -- The table of cases.
 abbrev pub cases : List Case
