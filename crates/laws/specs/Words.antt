@@ -5,6 +5,7 @@ pub use Prim.Native.Nat.{ℕ, zero, suc, _+_, _-_, _*_, _/_, _%_, _^_, _≤_, _<
 pub use mathlib.Core.Path.{_≡_}
 pub use mathlib.Core.Logic.{_⊎_, _≢_}
 pub use mathlib.Core.Bool.{Bool, true, false, cond, not, _&&_, _||_}
+pub use mathlib.Core.Option.{Option, none, some}
 pub use mathlib.Core.List.{List, [], _∷_, _++_, map}
 pub use lib.Dec.{leb, ltb, eqb}
 pub use lib.ListN.{length, getD, set, take, drop, replicate}
