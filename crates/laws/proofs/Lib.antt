@@ -1,5 +1,6 @@
 pub mod Tests
 pub mod Every
+pub mod Same
 pub mod Sums
 pub mod Greatest
 pub mod Tabulate

@@ -26,6 +26,10 @@ unfoldable pub everyBelow : ℕ → (ℕ → Bool) → Bool
 everyBelow zero f = true
 everyBelow (suc n) f = everyBelow n f && f n
 
+-- Whether two lists have the same numbers at the first n places, with 0 beyond their last.
+unfoldable pub sameUpTo : ℕ → List ℕ → List ℕ → Bool
+sameUpTo n a b = everyBelow n (λ i. eqb (getD a i 0) (getD b i 0))
+
 -- The list f i, f (i + 1), …, of n elements.
 unfoldable pub tabulate : {A : Type 0} → ℕ → ℕ → (ℕ → A) → List A
 tabulate i zero f = []

@@ -20,7 +20,8 @@ use Rattle.jobs.proofs.Checks.{nextCheck, records-append, records-none, records
 use Rattle.table.specs.declared.reading.Reading.{Reading}
 use Rattle.table.specs.Lines.{linesOf}
 use Rattle.table.specs.Rows.{maxColumns, rowOf}
-use Rattle.table.specs.Tables.{header, maxText, jobOf, refusedWith, recordsFrom, same, underHeader, readingOf}
+use Rattle.table.specs.Tables.{header, maxText, jobOf, refusedWith, recordsFrom, underHeader, readingOf}
+use Rattle.table.proofs.Headers.{isLine}
 use Rattle.table.proofs.Records.{thenRow}
 
 -- a reading that passes holds an accepted set
@@ -57,7 +58,7 @@ refused-accept x p = let z : _≡_ {A = ℕ} 0 1 = cc in absurd (omega arith)
 under-accept : (lines : List (List ℕ)) → Accepts (underHeader lines)
 under-accept [] = refused-accept NotHeader
 under-accept (line ∷ lines) =
-    by-header (same line header) (recordsFrom [] lines) (refusedWith NotHeader) (records-accept [] lines (records-none [])) (refused-accept NotHeader)
+    by-header (isLine header line) (recordsFrom [] lines) (refusedWith NotHeader) (records-accept [] lines (records-none [])) (refused-accept NotHeader)
 
 pub read-accepted : (text : List ℕ) → readingOf text .check ≡ Passed → checkOf (jobsOf (readingOf text .set)) ≡ Passed
 unfolding readingOf

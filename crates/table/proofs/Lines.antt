@@ -12,7 +12,6 @@ use Rattle.laws.proofs.Tests.{by-test}
 use Rattle.table.specs.declared.line.End.{End}
 use Rattle.table.specs.declared.line.End.the-variants.{Here, Elsewhere}
 use Rattle.table.specs.Lines.{isBreak, firstLine, afterLine, linesUpTo, linesOf}
-use Rattle.table.specs.Tables.{same}
 
 -- ---- a byte that no break starts at belongs to the line
 pub no-break : (b c : ℕ) → (b ≡ 13 → ⊥) ⊎ (c ≡ 10 → ⊥) → isBreak b c ≡ false
@@ -117,36 +116,30 @@ first-take (b ∷ c ∷ text) = by-test (isBreak b c) (λ t. rw t) (λ t. rw t (
 
 -- ---- where the line ends
 abbrev pub endOf : List ℕ → End
-endOf text = cond (same (firstLine text) []) (Here (lineLength text)) Elsewhere
+endOf text = cond (eqb (length (firstLine text)) 0) (Here (lineLength text)) Elsewhere
 
 pub end-empty : (text : List ℕ) → firstLine text ≡ [] → endOf text ≡ Here (lineLength text)
-unfolding same
-end-empty text e = rw e
-
-same-none : (line : List ℕ) → 0 < length line → same line [] ≡ false
-unfolding same
-same-none [] h = absurd (omega arith)
-same-none (b ∷ line) h = refl
+end-empty text e = rw (eq-eqb (length (firstLine text)) 0 (ap length e))
 
 pub end-elsewhere : (text : List ℕ) → 0 < length (firstLine text) → endOf text ≡ Elsewhere
-end-elsewhere text h = rw (same-none (firstLine text) h)
+end-elsewhere text h = rw (ne-eqb (length (firstLine text)) 0 (λ z. omega arith))
 
 pub end-within : (text : List ℕ) (n : ℕ) → endOf text ≡ Here n → n ≤ length text
 end-within text n e =
-    by-test (same (firstLine text) [])
+    by-test (eqb (length (firstLine text)) 0)
     (λ t. let z : lineLength text ≡ n = cc (rw t at e) in omega arith)
     (λ t. let z : _≡_ {A = ℕ} 0 1 = cc (rw t at e) in absurd (omega arith))
 
 -- ---- the end of a line byte by byte
 pub end-none : (text : List ℕ) → length text ≡ 0 → endOf text ≡ Here 0
-unfolding same firstLine afterLine
-end-none [] e = refl
+unfolding firstLine afterLine
+end-none [] e = end-empty [] refl
 end-none (b ∷ text) e = absurd (omega arith)
 
 pub end-short : (text : List ℕ) → (length text ≡ 0 → ⊥) → length text < 2 → endOf text ≡ Elsewhere
-unfolding same firstLine
+unfolding firstLine
 end-short [] h k = absurd (h refl)
-end-short (b ∷ []) h k = refl
+end-short (b ∷ []) h k = end-elsewhere (b ∷ []) (omega arith)
 end-short (b ∷ c ∷ text) h k = absurd (omega arith)
 
 pub end-other : (text : List ℕ) → 2 ≤ length text → (getD text 0 0 ≡ 13 → ⊥) ⊎ (getD text 1 0 ≡ 10 → ⊥) → endOf text ≡ Elsewhere

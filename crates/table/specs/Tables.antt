@@ -1,5 +1,5 @@
 -- A whole job table. Document 01, "A job table", and numbers 1 to 7. Assumes nothing.
-use Rattle.laws.specs.Words.{ℕ, Bool, true, false, cond, none, some, List, [], _∷_, _++_, length, getD, leb, eqb, lastOf, ascii}
+use Rattle.laws.specs.Words.{ℕ, cond, _&&_, none, some, List, [], _∷_, _++_, length, getD, leb, eqb, sameUpTo, lastOf, ascii}
 use Rattle.jobs.specs.declared.{job.Job.Job, refusal.Refusal.Refusal, refusal.Check.Check}
 use Rattle.jobs.specs.{Refusals.onPass, Jobs.job, Jobs.noJob, Jobs.jobsOf, Jobs.setOf, Checks.recordCheck, Checks.anyRecord}
 use Rattle.table.specs.{declared.reading.Reading.Reading, Lines.linesOf, Rows.maxColumns, Rows.rowOf}
@@ -32,17 +32,11 @@ recordsFrom before (line ∷ lines) =
           onPass (recordCheck (length before) (lastOf noJob before) j) refusedWith rest
     ]
 
--- Whether two texts are the same.
-unfoldable pub same : List ℕ → List ℕ → Bool
-same [] [] = true
-same [] (b ∷ text) = false
-same (a ∷ line) [] = false
-same (a ∷ line) (b ∷ text) = cond (eqb a b) (same line text) false
-
 -- 2, then the lines under the header.
 abbrev pub underHeader : List (List ℕ) → Reading
 underHeader [] = refusedWith Refusal.NotHeader
-underHeader (line ∷ lines) = cond (same line header) (recordsFrom [] lines) (refusedWith Refusal.NotHeader)
+underHeader (line ∷ lines) =
+    cond (eqb (length line) (length header) && sameUpTo (length header) line header) (recordsFrom [] lines) (refusedWith Refusal.NotHeader)
 
 -- The answer to reading a text: its jobs, or the refusal with no jobs; 1 comes first.
 unfoldable pub readingOf : List ℕ → Reading

@@ -1,7 +1,7 @@
 // One line of a table after the first: fields with single commas.
 ghost use Rattle.laws.specs.Words.{_≡_, _≤_, _<_, _+_, _-_, cond, none, some, eqb, [], length, drop, getD, padded};
 ghost use Rattle.decimal.specs.Fields.{fieldOf};
-ghost use Rattle.table.specs.{Lines.firstLine, Lines.afterLine, Rows.maxColumns, Rows.rowOf, Tables.same};
+ghost use Rattle.table.specs.{Lines.firstLine, Lines.afterLine, Rows.maxColumns, Rows.rowOf};
 use decimal::field::Field;
 use decimal::field::read_field;
 use jobs::refusal::Check;
@@ -47,7 +47,7 @@ fn read_column(rest: &[u8], k: usize) -> Field
 
 // Whether the first line of rest is empty, which it is at the end of the text and before a CR LF, and how many bytes its end takes.
 pub(crate) fn read_end(rest: &[u8]) -> End
-    ensures { λ r. let bytes = now (rest .entry) in ⌜ r ≡ cond (same (firstLine bytes) []) (End.Here (length bytes - length (afterLine bytes))) End.Elsewhere ⌝ }
+    ensures { λ r. let bytes = now (rest .entry) in ⌜ r ≡ cond (eqb (length (firstLine bytes)) 0) (End.Here (length bytes - length (afterLine bytes))) End.Elsewhere ⌝ }
 {
     if rest.len() == 0 {
         return End::Here { length: 0 };
