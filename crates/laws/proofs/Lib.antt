@@ -5,6 +5,7 @@ pub mod Sums
 pub mod Greatest
 pub mod Tabulate
 pub mod Lists
+pub mod Lines
 pub mod Filling
 pub mod Buffers
 pub mod Pieces

@@ -13,13 +13,12 @@ use lib.Dec.{eqb}
 use borrow.Author.Tests.{eq-eqb, ne-eqb, eqb-true}
 use Rattle.laws.proofs.Tests.{by-test, and-left}
 use Rattle.laws.proofs.Lists.{rest-is}
+use Rattle.laws.proofs.Lines.{isBreak, firstLine, inside, first-take}
 use Rattle.decimal.specs.declared.field.Field.{Field}
 use Rattle.decimal.specs.declared.field.Field.the-variants.{Number, NoNumber}
 use Rattle.decimal.specs.Fields.{digitRun, fieldOf}
 use Rattle.decimal.proofs.Fields.{digit-low, field-append, field-within}
-use Rattle.table.specs.Lines.{isBreak, firstLine}
-use Rattle.table.specs.Rows.{fieldsIn}
-use Rattle.table.proofs.Lines.{inside, first-take}
+use Rattle.table.specs.Lines.{fieldsIn}
 
 -- ---- what the contract of `read_column` writes out
 -- a field with one byte more in front
@@ -57,7 +56,6 @@ fields-ahead k before i line = by-test (eqb i 0) (λ t. rw t (unfold fieldsIn in
 
 -- ---- a text whose first line is empty begins with a CR, if with anything
 break-code : (b c : ℕ) → isBreak b c ≡ true → b ≡ 13
-unfolding isBreak
 break-code b c e = eqb-true b 13 (and-left (eqb b 13) (eqb c 10) e)
 
 run-none : (text : List ℕ) → firstLine text ≡ [] → digitRun text ≡ []

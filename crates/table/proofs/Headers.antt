@@ -12,11 +12,11 @@ use borrow.Author.Tests.{le-leb, lt-leb, leb-true, eq-eqb, ne-eqb, eqb-true, eqb
 use Rattle.laws.specs.Words.{sameUpTo}
 use Rattle.laws.proofs.Tests.{by-test, both-ways, never-true, and-left, and-right, and-both}
 use Rattle.laws.proofs.Same.{same-not, same-whole, same-front, front-same}
+use Rattle.laws.proofs.Lines.{firstLine, afterLine, no-break, lineLength, after-within, first-take}
 use Rattle.table.specs.declared.line.End.{End}
 use Rattle.table.specs.declared.line.End.the-variants.{Here, Elsewhere}
-use Rattle.table.specs.Lines.{firstLine, afterLine}
 use Rattle.table.specs.Tables.{header}
-use Rattle.table.proofs.Lines.{lineLength, no-break, first-take, endOf, after-within, end-within}
+use Rattle.table.proofs.Lines.{endOf, end-within}
 
 -- ---- what the contracts write out
 abbrev pub startsWith : List ℕ → List ℕ → Bool

@@ -8,6 +8,7 @@ use lib.ListN.{length, drop, getD, length-drop, drop-of-length-le}
 use lib.Seq.{drop-drop, drop-cons}
 use Rattle.laws.specs.Words.{lastOf, padded}
 use Rattle.laws.proofs.Lists.{last-snoc, getD-padded}
+use Rattle.laws.proofs.Lines.{firstLine, afterLine, lineLength, line-within, line-some, after-drop}
 use Rattle.jobs.specs.declared.job.Job.{Job}
 use Rattle.jobs.specs.declared.set.JobSet.{JobSet}
 use Rattle.jobs.specs.declared.refusal.Refusal.{Refusal}
@@ -23,10 +24,9 @@ use Rattle.jobs.proofs.Checks.{any-some}
 use Rattle.jobs.proofs.Accepted.{record-fine}
 use Rattle.table.specs.declared.line.Line.{Line}
 use Rattle.table.specs.declared.reading.Reading.{Reading}
-use Rattle.table.specs.Lines.{firstLine, afterLine, linesUpTo, linesOf}
-use Rattle.table.specs.Rows.{maxColumns, rowOf}
+use Rattle.table.specs.Lines.{linesOf, maxColumns, rowOf}
 use Rattle.table.specs.Tables.{jobOf, refusedWith, recordsFrom}
-use Rattle.table.proofs.Lines.{lineLength, line-within, line-some, after-drop, lines-cons}
+use Rattle.table.proofs.Lines.{lines-cons}
 use Rattle.table.proofs.Rows.{lineWith, lineOf}
 
 -- ---- one line
@@ -84,7 +84,7 @@ records-none rest s last e f =
 module _ {rest : List ℕ} {s : JobSet} {last : Job} {at : ℕ} (r : RecordsRead rest s last at) where
   -- ---- no line is left
   at-end : length rest ≤ at → recordsFrom (jobsOf s) [] ≡ recordsFrom [] (linesOf rest)
-  unfolding linesUpTo
+  unfolding linesOf
   at-end h = ap (λ (t : List ℕ). recordsFrom (jobsOf s) (linesOf t)) (sym (drop-of-length-le rest h)) ∙ r .follows
 
   pub records-empty : length rest ≤ at → s .count ≡ 0 → refusedWith NoRecord ≡ recordsFrom [] (linesOf rest)

@@ -11,6 +11,7 @@ use lib.Seq.{drop-drop, take-suc-set, length-take-le}
 use borrow.Author.Tests.{ne-eqb}
 use Rattle.laws.specs.Words.{padded}
 use Rattle.laws.proofs.Lists.{length-padded, padded-snoc}
+use Rattle.laws.proofs.Lines.{firstLine, afterLine, lineLength, after-within, inside}
 use Rattle.decimal.specs.declared.field.Field.{Field}
 use Rattle.decimal.specs.declared.field.Field.the-variants.{Number, NoNumber}
 use Rattle.jobs.specs.declared.refusal.Refusal.the-variants.{MalformedLine}
@@ -18,9 +19,8 @@ use Rattle.jobs.specs.declared.refusal.Check.the-variants.{Passed, Refused}
 use Rattle.table.specs.declared.line.End.{End}
 use Rattle.table.specs.declared.line.End.the-variants.{Here, Elsewhere}
 use Rattle.table.specs.declared.line.Line.{Line}
-use Rattle.table.specs.Lines.{firstLine, afterLine}
-use Rattle.table.specs.Rows.{maxColumns, fieldsIn, rowOf}
-use Rattle.table.proofs.Lines.{lineLength, endOf, after-within, inside, end-empty, end-elsewhere, end-within}
+use Rattle.table.specs.Lines.{maxColumns, fieldsIn, rowOf}
+use Rattle.table.proofs.Lines.{endOf, end-empty, end-elsewhere, end-within}
 use Rattle.table.proofs.Columns.{columnOf, thenField, ahead, fields-ahead, column-line, column-within}
 
 -- ---- a line that passed, one that is not so many fields, and the first line of a text

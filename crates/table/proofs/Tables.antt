@@ -7,11 +7,12 @@ use native.Mathlib.Omega.{arith}
 use lib.ListN.{length, drop}
 use borrow.Author.Tests.{le-leb, lt-leb}
 use Rattle.laws.proofs.Tests.{by-test}
+use Rattle.laws.proofs.Lines.{firstLine, afterLine, lineLength, line-within, after-drop}
 use Rattle.jobs.specs.declared.refusal.Refusal.the-variants.{TextTooLong, NotHeader}
 use Rattle.table.specs.declared.line.End.the-variants.{Here, Elsewhere}
-use Rattle.table.specs.Lines.{firstLine, afterLine, linesUpTo, linesOf}
+use Rattle.table.specs.Lines.{linesOf}
 use Rattle.table.specs.Tables.{header, maxText, refusedWith, recordsFrom, underHeader, readingOf}
-use Rattle.table.proofs.Lines.{lineLength, line-within, after-drop, lines-cons}
+use Rattle.table.proofs.Lines.{lines-cons}
 use Rattle.table.proofs.Headers.{isLine, headerEnd}
 
 pub too-long : (text : List ℕ) → maxText < length text → refusedWith TextTooLong ≡ readingOf text
@@ -20,7 +21,7 @@ too-long text h = rw (lt-leb (length text) maxText h)
 
 -- the lines under the header are those behind the first line
 by-header : (text : List ℕ) → underHeader (linesOf text) ≡ cond (isLine header (firstLine text)) (recordsFrom [] (linesOf (afterLine text))) (refusedWith NotHeader)
-by-header [] = unfold linesUpTo firstLine in refl
+by-header [] = unfold linesOf firstLine in refl
 by-header (b ∷ text) = ap underHeader (lines-cons b text)
 
 module _ (text : List ℕ) (short : length text ≤ maxText) where
