@@ -2,9 +2,9 @@
 use mathlib.Core.List.{[], _∷_}
 use mathlib.Core.Path.{_≡_, refl}
 use lib.IntN.{pos, negsuc}
+use Rattle.laws.specs.Words.{patched, written}
 use Rattle.decimal.specs.declared.field.Field.the-variants.{Number, NoNumber}
 use Rattle.decimal.specs.Digits.{countUpTo, digitCount, lastDigits, decimal, valueFrom, signed}
-use Rattle.decimal.specs.Writing.{written}
 use Rattle.decimal.specs.Fields.{isDigit, digitRun, leadingZero, isNumeral, fieldOf}
 
 count-4000000000 : digitCount 4000000000 ≡ 10
@@ -26,7 +26,7 @@ text-minus-5 = refl
 
 -- 305 in four bytes, and in two
 room-for-305 : written (decimal 305) (7 ∷ 7 ∷ 7 ∷ 7 ∷ []) ≡ 51 ∷ 48 ∷ 53 ∷ 7 ∷ []
-unfolding countUpTo digitCount lastDigits decimal written
+unfolding countUpTo digitCount lastDigits decimal patched written
 room-for-305 = refl
 
 no-room-for-305 : written (decimal 305) (7 ∷ 7 ∷ []) ≡ 7 ∷ 7 ∷ []

@@ -52,3 +52,11 @@ ascii (c then text) = code c ∷ ascii text
 -- The buffer with the text from the place `at` on, and all else as it was.
 unfoldable pub patched : {A : Type 0} → List A → ℕ → List A → List A
 patched buffer at text = take at buffer ++ text ++ drop (at + length text) buffer
+
+-- The buffer with the text at its start; where the text does not fit, the buffer as it was.
+unfoldable pub written : List ℕ → List ℕ → List ℕ
+written text buffer = cond (leb (length text) (length buffer)) (patched buffer 0 text) buffer
+
+-- How many bytes were written: the text's length, and 0 where it does not fit.
+unfoldable pub writtenLength : List ℕ → List ℕ → ℕ
+writtenLength text buffer = cond (leb (length text) (length buffer)) (length text) 0
