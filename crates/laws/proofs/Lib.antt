@@ -6,6 +6,7 @@ pub mod Greatest
 pub mod Tabulate
 pub mod Lists
 pub mod Lines
+pub mod Digits
 pub mod Filling
 pub mod Buffers
 pub mod Pieces
