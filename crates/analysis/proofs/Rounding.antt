@@ -4,7 +4,6 @@
 -- Assumes a table in its limits.
 use Prim.Native.Nat.{ℕ, zero, suc, _+_, _*_, _-_, _≤_, _<_}
 use mathlib.Core.Path.{_≡_, refl, sym, ap, subst, fun-ext, _∙_}
-use mathlib.Core.Logic.{_≢_}
 use mathlib.Core.Bool.{true, false}
 use mathlib.Core.List.{List}
 use native.Mathlib.Omega.{arith}
@@ -12,19 +11,18 @@ use native.Mathlib.Nat.{mul-le-mul-right}
 use native.Mathlib.Numerals.{add-one}
 use lib.ListN.{getD}
 use lib.Seq.{ext-getD}
-use borrow.Author.Tests.{eq-eqb}
-use Rattle.laws.specs.Words.{padded}
-use Rattle.laws.proofs.Tests.{by-last, by-order, both-ways, never-true}
-use Rattle.laws.proofs.Every.{every-none, every-next}
+use Rattle.laws.specs.Words.{sameUpTo, padded}
+use Rattle.laws.proofs.Tests.{by-last, by-order, both-ways}
+use Rattle.laws.proofs.Same.{same-at, same-refl}
 use Rattle.laws.proofs.Lists.{getD-padded}
 use Rattle.jobs.specs.Limits.{maxJobs}
 use Rattle.jobs.specs.declared.refusal.Check.the-variants.{Passed}
 use Rattle.theory.specs.Table.{Table}
-use Rattle.theory.specs.Bounds.{boundAt, cjaWith}
-use Rattle.theory.specs.Rounds.{overlap, round, after, sameBounds, Answer, roundLimit, itr}
+use Rattle.theory.specs.Bounds.{cjaWith}
+use Rattle.theory.specs.Rounds.{overlap, round, after, Answer, roundLimit, itr}
 use Rattle.theory.specs.Claims.{Repeats, Settled}
 use Rattle.theory.proofs.Rules.{length-after}
-use Rattle.theory.proofs.Settling.{itr-settled, rounds-limit, settled-unique, same-at, same-refl}
+use Rattle.theory.proofs.Settling.{itr-settled, rounds-limit, settled-unique}
 use Rattle.analysis.specs.declared.answer.Itr.{Itr}
 use Rattle.theory.proofs.Columns.{Fit}
 
@@ -36,18 +34,6 @@ limit-small t few =
     let second : n * n * (n - 1) ≤ maxJobs * n * (n - 1) = mul-le-mul-right (n - 1) first in
     let third : maxJobs * n * (n - 1) ≤ maxJobs * maxJobs * (n - 1) = mul-le-mul-right (n - 1) (omega arith) in
     omega arith
-
--- ---- the same bounds
-pub same-none : (a b : List ℕ) → sameBounds 0 a b ≡ true
-unfolding sameBounds
-same-none a b = every-none _
-
-pub same-more : (n : ℕ) (a b : List ℕ) → sameBounds n a b ≡ true → boundAt a n ≡ boundAt b n → sameBounds (n + 1) a b ≡ true
-unfolding sameBounds
-same-more n a b e q = every-next _ n e (eq-eqb (boundAt a n) (boundAt b n) q)
-
-pub same-not : (n : ℕ) (a b : List ℕ) (i : ℕ) → i < n → boundAt a i ≢ boundAt b i → sameBounds n a b ≡ false
-same-not n a b i l ne = never-true (sameBounds n a b) (λ e. ne (same-at n a b e i l))
 
 -- ---- a round reads bounds as they are padded
 pub round-padded : (t : Table) (b : List ℕ) → round t (padded maxJobs 0 b) ≡ round t b
@@ -83,7 +69,7 @@ module _ (t : Table) where
           let same : round t bounds ≡ round t (after t n) = rw (h .bounds-are) (round-padded t (after t n)) in
           e ∙ ap (padded maxJobs 0) same
 
-      repeats : sameBounds (t .count) next bounds ≡ true → Repeats t (suc n)
+      repeats : sameUpTo (t .count) next bounds ≡ true → Repeats t (suc n)
       repeats s =
           ext-getD 0 (after t (suc n)) (after t n) (length-after t (suc n) ∙ sym (length-after t n)) (λ i l.
           sym (getD-padded maxJobs 0 (after t (suc n)) i)
@@ -92,13 +78,13 @@ module _ (t : Table) where
           ∙ ap (λ (b : List ℕ). getD b i 0) (h .bounds-are)
           ∙ getD-padded maxJobs 0 (after t n) i)
 
-      moves : sameBounds (t .count) next bounds ≡ false → Repeats t (suc n) → ⊥
+      moves : sameUpTo (t .count) next bounds ≡ false → Repeats t (suc n) → ⊥
       moves s r =
           both-ways
-          (subst (λ (b : List ℕ). sameBounds (t .count) next b ≡ true) (next-is ∙ ap (padded maxJobs 0) r ∙ sym (h .bounds-are)) (same-refl (t .count) next))
+          (subst (λ (b : List ℕ). sameUpTo (t .count) next b ≡ true) (next-is ∙ ap (padded maxJobs 0) r ∙ sym (h .bounds-are)) (same-refl (t .count) next))
           s
 
-      pub rounding-next : sameBounds (t .count) next bounds ≡ false → Rounding t next (n + 1)
+      pub rounding-next : sameUpTo (t .count) next bounds ≡ false → Rounding t next (n + 1)
       rounding-next s =
           rw add-one
           (record {
@@ -106,7 +92,7 @@ module _ (t : Table) where
             moved = λ m l r. by-last m (suc n) l (λ q. moves s (subst (Repeats t) q r)) (λ ml. h .moved m ml r);
           })
 
-      pub rounding-last : sameBounds (t .count) next bounds ≡ true → _≡_ {A = Itr} (record { check = Passed; bounds = next; rounds = n + 1 }) (itrPassed (itr t))
+      pub rounding-last : sameUpTo (t .count) next bounds ≡ true → _≡_ {A = Itr} (record { check = Passed; bounds = next; rounds = n + 1 }) (itrPassed (itr t))
       rounding-last s =
           let answer : Answer = record { bounds = after t (suc n); rounds = suc n } in
           let settled : Settled t answer = record { made = refl; last = repeats s; first = λ m l r. h .moved m l r } in

@@ -1,7 +1,7 @@
 // The ITR bounds, and the number of rounds that they take.
-ghost use Rattle.laws.specs.Words.{_≡_, _≤_, padded};
+ghost use Rattle.laws.specs.Words.{_≡_, _≤_, sameUpTo, padded};
 ghost use Rattle.jobs.specs.{Limits.maxJobs, Jobs.jobsOf, Checks.checkOf};
-ghost use Rattle.theory.specs.{Table.tableOf, Rounds.itrStart, Rounds.sameBounds, Rounds.itr as Theory·itr};
+ghost use Rattle.theory.specs.{Table.tableOf, Rounds.itrStart, Rounds.itr as Theory·itr};
 ghost use Rattle.analysis.specs.Answers.{itrOf};
 ghost use Rattle.theory.proofs.{Columns.lent, Columns.Fit, Endings.Ended};
 use crate::answer::Itr;
@@ -44,7 +44,7 @@ fn same_bounds<'a, 'b>(
     previous: &'b [u64; JobSet::MAX_JOBS],
 ) -> bool
     requires { ⌜ count ≤ maxJobs ⌝ }
-    ensures { λ r. ⌜ r ≡ sameBounds count (now (next .entry)) (now (previous .entry)) ⌝ }
+    ensures { λ r. ⌜ r ≡ sameUpTo count (now (next .entry)) (now (previous .entry)) ⌝ }
 {
     let mut i: usize = 0;
     while i < count {

@@ -8,7 +8,6 @@ pub claims : Claims
 claims =
     record {
       value-decimal = values.value-decimal;
-      length-decimal = values.length-decimal;
       count-holds = counts.count-holds;
       count-fewest = counts.count-fewest;
       count-within = counts.count-within;

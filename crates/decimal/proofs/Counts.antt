@@ -1,46 +1,15 @@
 -- How many digits a number has: the fewest that hold it. Nothing here depends on a word's size.
 -- Assumes nothing.
 use Prim.Native.Nat.{ℕ, zero, suc, _+_, _*_, _^_, _-_, _/_, _≤_, _<_}
-use mathlib.Core.Path.{_≡_, refl, ap}
+use mathlib.Core.Path.{_≡_, refl}
 use native.Mathlib.Omega.{arith}
 use native.Mathlib.Numerals.{add-one}
 use native.Mathlib.Nat.{pow-suc, pow-le-pow-right}
 use lib.Dec.{ltb, leb}
-use borrow.Author.Tests.{lt-ltb, le-ltb, ltb-true, ltb-false, leb-true, leb-false}
+use borrow.Author.Tests.{ltb-true, ltb-false, leb-true, leb-false}
 use Rattle.laws.proofs.Tests.{by-test}
-use Rattle.decimal.specs.Digits.{countUpTo, digitCount}
-
--- the limit of the recursion does not matter where it is large enough
-count-same : (f g n : ℕ) → n < f → n < g → countUpTo f n ≡ countUpTo g n
-unfolding countUpTo
-count-same zero g n h k = absurd (omega arith)
-count-same (suc f) zero n h k = absurd (omega arith)
-count-same (suc f) (suc g) n h k =
-    by-test (ltb n 10)
-    (λ t. simp t)
-    (λ t. simp t (ap (λ (r : ℕ). r + 1) (count-same f g (n / 10) (omega (arith, ltb-false n 10 t)) (omega (arith, ltb-false n 10 t)))))
-
--- below ten one digit, else one more than without the last digit
-pub count-one : (n : ℕ) → n < 10 → digitCount n ≡ 1
-unfolding digitCount countUpTo
-count-one n h = rw (add-one, lt-ltb n 10 h)
-
-pub count-more : (n : ℕ) → 10 ≤ n → digitCount n ≡ digitCount (n / 10) + 1
-unfolding digitCount countUpTo
-count-more n h =
-    rw (add-one, le-ltb n 10 h)
-    (ap (λ (r : ℕ). r + 1) (count-same n (n / 10 + 1) (n / 10) (omega arith) (omega arith)))
-
--- induction on a number by its digits: below ten, and from a number without its last digit
-pub by-digits : (P : ℕ → Type 0) → ((n : ℕ) → n < 10 → P n) → ((n : ℕ) → 10 ≤ n → P (n / 10) → P n) → (n : ℕ) → P n
-by-digits P one more n = below (suc n) n (omega arith)
-  where
-    below : (f m : ℕ) → m < f → P m
-    below zero m h = absurd (omega arith)
-    below (suc f) m h =
-        by-test (ltb m 10)
-        (λ t. one m (ltb-true m 10 t))
-        (λ t. let l = ltb-false m 10 t in more m l (below f (m / 10) (omega arith)))
+use Rattle.decimal.specs.Digits.{digitCount}
+use Rattle.decimal.proofs.Digits.{by-digits, count-one, count-more}
 
 pub count-some : (n : ℕ) → 0 < digitCount n
 count-some =

@@ -2,35 +2,35 @@
 use mathlib.Core.List.{[], _∷_}
 use mathlib.Core.Path.{_≡_, refl}
 use lib.IntN.{pos, negsuc}
+use Rattle.laws.specs.Words.{patched, written}
 use Rattle.decimal.specs.declared.field.Field.the-variants.{Number, NoNumber}
-use Rattle.decimal.specs.Digits.{countUpTo, digitCount, lastDigits, decimal, valueFrom, signed}
-use Rattle.decimal.specs.Writing.{written}
+use Rattle.decimal.specs.Digits.{digitsUpTo, digitCount, decimal, valueFrom, signed}
 use Rattle.decimal.specs.Fields.{isDigit, digitRun, leadingZero, isNumeral, fieldOf}
 
 count-4000000000 : digitCount 4000000000 ≡ 10
-unfolding countUpTo digitCount
+unfolding digitsUpTo decimal
 count-4000000000 = refl
 
 -- 0, 305 and -5
 text-0 : decimal 0 ≡ 48 ∷ []
-unfolding countUpTo digitCount lastDigits decimal
+unfolding digitsUpTo decimal
 text-0 = refl
 
 text-305 : signed (pos 305) ≡ 51 ∷ 48 ∷ 53 ∷ []
-unfolding countUpTo digitCount lastDigits decimal signed
+unfolding digitsUpTo decimal signed
 text-305 = refl
 
 text-minus-5 : signed (negsuc 4) ≡ 45 ∷ 53 ∷ []
-unfolding countUpTo digitCount lastDigits decimal signed
+unfolding digitsUpTo decimal signed
 text-minus-5 = refl
 
 -- 305 in four bytes, and in two
 room-for-305 : written (decimal 305) (7 ∷ 7 ∷ 7 ∷ 7 ∷ []) ≡ 51 ∷ 48 ∷ 53 ∷ 7 ∷ []
-unfolding countUpTo digitCount lastDigits decimal written
+unfolding digitsUpTo decimal patched written
 room-for-305 = refl
 
 no-room-for-305 : written (decimal 305) (7 ∷ 7 ∷ []) ≡ 7 ∷ 7 ∷ []
-unfolding countUpTo digitCount lastDigits decimal written
+unfolding digitsUpTo decimal written
 no-room-for-305 = refl
 
 -- "0,1", "12", "012", "00", ",1" and the empty text

@@ -1,3 +1,4 @@
+pub mod Digits
 pub mod Counts
 pub mod Values
 pub mod Writing

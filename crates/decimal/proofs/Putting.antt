@@ -6,8 +6,9 @@ use mathlib.Core.List.{List, _∷_, _++_}
 use native.Mathlib.Omega.{arith}
 use lib.ListN.{length, drop, set, length-set}
 use lib.Seq.{drop-cons, drop-set-lt, getD-set-same}
-use Rattle.decimal.specs.Digits.{digitCount, lastDigits, decimal}
-use Rattle.decimal.proofs.Values.{last-more, length-decimal}
+use Rattle.laws.proofs.Digits.{lastDigits, last-more}
+use Rattle.decimal.specs.Digits.{decimal, digitCount}
+use Rattle.decimal.proofs.Digits.{decimal-last}
 use Rattle.decimal.proofs.Writing.{Writes, writes-fits, writes-short}
 
 set-front : (l : List ℕ) (i d : ℕ) → i < length l → drop i (set l i d) ≡ d ∷ drop (suc i) l
@@ -49,14 +50,10 @@ module _ {value count place left : ℕ} {before rest : List ℕ} (p : DigitsPut 
 
 -- what the writer of digits does, by its count
 module _ (value : ℕ) (b : List ℕ) {count : ℕ} (counted : count ≡ digitCount value) where
-  is-length : count ≡ length (decimal value)
-  is-length = counted ∙ sym (length-decimal value)
-
   pub digits-short : length b < count → Writes (decimal value) b 0 b
-  digits-short h = writes-short (decimal value) b (omega (arith, is-length))
+  digits-short h = writes-short (decimal value) b (omega (arith, counted))
 
   pub digits-fit : {after : List ℕ} → count ≤ length b → after ≡ lastDigits count value ++ drop count b → Writes (decimal value) b count after
-  unfolding decimal
   digits-fit h e =
-      writes-fits (decimal value) b (omega (arith, is-length)) is-length
-      (e ∙ ap (λ (k : ℕ). lastDigits k value ++ drop count b) counted ∙ ap (λ (k : ℕ). decimal value ++ drop k b) is-length)
+      writes-fits (decimal value) b (omega (arith, counted)) counted
+      (e ∙ ap (λ (k : ℕ). lastDigits k value ++ drop k b) counted ∙ ap (λ (s : List ℕ). s ++ drop (digitCount value) b) (sym (decimal-last value)))

@@ -15,7 +15,6 @@ use mir.Val.{SFits, toZ, ofZ}
 use mir.Facts.{toZ-ofZ, sfits-lit}
 use borrow.Author.Tests.{ltb-true}
 use Rattle.decimal.specs.Digits.{digitCount, decimal, signed}
-use Rattle.decimal.proofs.Values.{length-decimal}
 
 next-fits : (n : ℕ) → n < 2 ^ 63 → SFits w64 (negsuc n +ℤ pos 1)
 next-fits zero h = sfits-lit tt
@@ -73,7 +72,7 @@ module _ {z : ℤ} {negative : Bool} {size : ℕ} (f : SFits w64 z) (n : negativ
   text-else t = signed-else z (rw (toZ-ofZ f) at (sym n ∙ t)) ∙ ap decimal (sym (s ∙ ap natAbs (toZ-ofZ f)))
 
   pub length-below : {count : ℕ} → count ≡ digitCount size → negative ≡ true → count + 1 ≡ length (signed z)
-  length-below e t = omega (arith, e, length-decimal size, ap length (text-below t))
+  length-below e t = omega (arith, e, ap length (text-below t))
 
   pub length-else : {count : ℕ} → count ≡ digitCount size → negative ≡ false → count ≡ length (signed z)
-  length-else e t = omega (arith, e, length-decimal size, ap length (text-else t))
+  length-else e t = omega (arith, e, ap length (text-else t))

@@ -1,30 +1,21 @@
--- The digits of a number: how many, what they spell, and the first of them. Nothing here depends on a word's size.
+-- The digits of a number: how many at most, what they spell, and the first of them. Nothing here depends on a word's size.
 -- Assumes nothing.
 use Prim.Native.Nat.{ℕ, zero, suc, _+_, _*_, _^_, _-_, _/_, _%_, _≤_, _<_}
-use mathlib.Core.Path.{_≡_, refl, ap, _∙_}
+use mathlib.Core.Path.{_≡_, refl, _∙_}
 use mathlib.Core.Bool.{false}
-use mathlib.Core.List.{List, [], _∷_, _++_, append-assoc}
+use mathlib.Core.List.{List, [], _∷_, _++_}
 use native.Mathlib.Omega.{arith}
-use native.Mathlib.Numerals.{add-one}
 use lib.IntN.{ℤ, pos, negsuc, natAbs}
-use lib.ListN.{length, getD, length-append, List·getD-append}
+use lib.ListN.{length, getD, List·getD-append}
 use borrow.Author.Tests.{ne-eqb}
-use Rattle.decimal.specs.Digits.{digitCount, lastDigits, decimal, signed, valueFrom}
+use Rattle.decimal.specs.Digits.{decimal, signed, valueFrom}
 use Rattle.decimal.specs.Fields.{leadingZero}
-use Rattle.decimal.proofs.Counts.{by-digits, count-one, count-more, count-some, count-within}
-
-pub length-last : (k n : ℕ) → length (lastDigits k n) ≡ k
-unfolding lastDigits
-length-last zero n = refl
-length-last (suc k) n = length-append (lastDigits k (n / 10)) ((48 + n % 10) ∷ []) ∙ omega (arith, length-last k (n / 10))
-
-pub length-decimal : (n : ℕ) → length (decimal n) ≡ digitCount n
-unfolding decimal
-length-decimal n = length-last (digitCount n) n
+use Rattle.decimal.proofs.Digits.{decimal-one, decimal-more, by-digits}
+use Rattle.decimal.proofs.Counts.{count-some, count-within}
 
 -- a number below a power of ten, and an integer of such a size with its sign
 pub decimal-within : (k n : ℕ) → n < 10 ^ suc k → length (decimal n) ≤ suc k
-decimal-within k n h = omega (arith, length-decimal n, count-within k n h)
+decimal-within k n h = count-within k n h
 
 pub signed-within : (k : ℕ) (z : ℤ) → natAbs z < 10 ^ suc k → length (signed z) ≤ suc k + 1
 unfolding signed
@@ -32,21 +23,7 @@ signed-within k (pos n) h = omega (arith, decimal-within k n h)
 signed-within k (negsuc n) h = omega (arith, decimal-within k (suc n) h)
 
 pub decimal-some : (n : ℕ) → 0 < length (decimal n)
-decimal-some n = omega (arith, length-decimal n, count-some n)
-
--- the last digit, in front of what follows the digits
-pub last-more : (k n : ℕ) (s : List ℕ) → lastDigits (suc k) n ++ s ≡ lastDigits k (n / 10) ++ ((48 + n % 10) ∷ s)
-unfolding lastDigits
-last-more k n s = append-assoc (lastDigits k (n / 10)) ((48 + n % 10) ∷ []) s
-
--- below ten one digit, else the last digit after the others
-pub decimal-one : (n : ℕ) → n < 10 → decimal n ≡ (48 + n) ∷ []
-unfolding decimal lastDigits
-decimal-one n h = rw (count-one n h) (ap (λ (d : ℕ). (48 + d) ∷ []) (omega arith))
-
-pub decimal-more : (n : ℕ) → 10 ≤ n → decimal n ≡ decimal (n / 10) ++ ((48 + n % 10) ∷ [])
-unfolding decimal lastDigits
-decimal-more n h = rw (count-more n h, add-one)
+decimal-some n = count-some n
 
 value-snoc : (s : List ℕ) (a d : ℕ) → valueFrom a (s ++ (d ∷ [])) ≡ valueFrom a s * 10 + (d - 48)
 unfolding valueFrom

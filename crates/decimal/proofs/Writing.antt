@@ -4,20 +4,20 @@ use Prim.Native.Nat.{ℕ, suc, _+_, _-_, _≤_, _<_}
 use mathlib.Core.Path.{_≡_, refl, sym, ap, _∙_}
 use mathlib.Core.List.{List, [], _∷_, _++_}
 use native.Mathlib.Omega.{arith}
+use native.Mathlib.Nat.{zero-add}
 use lib.Dec.{leb}
 use lib.ListN.{length, take, drop, set, length-append, length-drop}
 use borrow.Rule.Slice.PartMut.{putMid, put-same}
 use borrow.Author.Tests.{le-leb, lt-leb, leb-true, leb-false}
-use Rattle.laws.specs.Words.{patched}
+use Rattle.laws.specs.Words.{patched, written, writtenLength}
 use Rattle.laws.proofs.Tests.{by-test}
 use Rattle.laws.proofs.Lists.{rest-is}
 use Rattle.laws.proofs.Buffers.{put-rest, Wrote, wrote-more}
-use Rattle.decimal.specs.Writing.{written, writtenLength}
 
 -- a text that fits, and one that does not
 pub written-fits : (text b : List ℕ) → length text ≤ length b → written text b ≡ text ++ drop (length text) b
-unfolding written
-written-fits text b h = rw (le-leb (length text) (length b) h)
+unfolding written patched
+written-fits text b h = rw (le-leb (length text) (length b) h, zero-add)
 
 pub written-short : (text b : List ℕ) → length b < length text → written text b ≡ b
 unfolding written

@@ -1,5 +1,5 @@
 -- What is proved of decimal digits, for numbers of any size; proofs/Claims.antt has the proof of all. Assumes nothing.
-use Rattle.laws.specs.Words.{ℕ, suc, _-_, _^_, _≤_, _<_, false, List, [], _++_, _≡_, length}
+use Rattle.laws.specs.Words.{ℕ, suc, _-_, _^_, _≤_, _<_, false, List, [], _++_, _≡_}
 use Rattle.decimal.specs.{Digits.digitCount, Digits.decimal, Digits.valueFrom, Fields.maxDigits, Fields.digitRun, Fields.leadingZero, Fields.fieldOf}
 use Rattle.decimal.specs.declared.field.Field.{Field}
 
@@ -7,8 +7,6 @@ use Rattle.decimal.specs.declared.field.Field.{Field}
 pub record Claims : Type 0 where
   -- The digits of a number spell it.
   pub value-decimal : (n : ℕ) → valueFrom 0 (decimal n) ≡ n
-  -- There are as many as the count says.
-  pub length-decimal : (n : ℕ) → length (decimal n) ≡ digitCount n
   -- A number is below ten to the power of its count.
   pub count-holds : (n : ℕ) → n < 10 ^ digitCount n
   -- No fewer digits hold it.

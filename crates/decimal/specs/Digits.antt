@@ -1,23 +1,18 @@
 -- Decimal digits of numbers of any size, as ASCII codes; Claims.antt has what is proved of them. Assumes nothing.
-use Rattle.laws.specs.Words.{ℕ, zero, suc, _+_, _-_, _*_, _/_, _%_, cond, List, [], _∷_, _++_, ltb, ℤ, pos, negsuc}
+use Rattle.laws.specs.Words.{ℕ, zero, suc, _+_, _-_, _*_, _/_, _%_, cond, List, [], _∷_, _++_, ltb, length, ℤ, pos, negsuc}
 
--- How many digits n has, for any f above n: below ten one, else one more than without the last digit; f only ends the recursion.
-unfoldable pub countUpTo : ℕ → ℕ → ℕ
-countUpTo zero n = 0
-countUpTo (suc f) n = let fewer = countUpTo f (n / 10) in cond (ltb n 10) 1 (fewer + 1)
-
--- How many digits n has.
-unfoldable pub digitCount : ℕ → ℕ
-digitCount n = countUpTo (n + 1) n
-
--- The last k digits of n, with zeros in front where n has fewer; the code of a digit is 48 plus its value.
-unfoldable pub lastDigits : ℕ → ℕ → List ℕ
-lastDigits zero n = []
-lastDigits (suc k) n = lastDigits k (n / 10) ++ ((48 + n % 10) ∷ [])
+-- The digits of n, for any f above n: those of n / 10, where n is not below ten, and the last, coded as 48 plus it; f only ends the recursion.
+unfoldable pub digitsUpTo : ℕ → ℕ → List ℕ
+digitsUpTo zero n = []
+digitsUpTo (suc f) n = let others = digitsUpTo f (n / 10) in cond (ltb n 10) [] others ++ ((48 + n % 10) ∷ [])
 
 -- The digits of n, the most significant first.
 unfoldable pub decimal : ℕ → List ℕ
-decimal n = lastDigits (digitCount n) n
+decimal n = digitsUpTo (n + 1) n
+
+-- How many digits n has.
+abbrev pub digitCount : ℕ → ℕ
+digitCount n = length (decimal n)
 
 -- The number that digits spell after the number a, which is 0 for the digits alone.
 unfoldable pub valueFrom : ℕ → List ℕ → ℕ

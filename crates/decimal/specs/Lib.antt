@@ -1,4 +1,3 @@
 pub mod Digits
-pub mod Writing
 pub mod Fields
 pub mod Claims

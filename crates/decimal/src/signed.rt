@@ -1,7 +1,7 @@
 // Writing a number with its sign.
-ghost use Rattle.laws.specs.Words.{_≡_, length, pos, natAbs};
+ghost use Rattle.laws.specs.Words.{_≡_, length, pos, natAbs, written, writtenLength};
 ghost use lib.Signed.{ltZ};
-ghost use Rattle.decimal.specs.{Digits.signed, Writing.written, Writing.writtenLength};
+ghost use Rattle.decimal.specs.Digits.{signed};
 use crate::count::digit_count;
 use crate::unsigned::write_unsigned;
 

@@ -1,6 +1,7 @@
 // Writing a number without a sign.
-ghost use Rattle.laws.specs.Words.{_≡_, _++_, _≤_, length, drop};
-ghost use Rattle.decimal.specs.{Digits.lastDigits, Digits.decimal, Writing.written, Writing.writtenLength};
+ghost use Rattle.laws.specs.Words.{_≡_, _++_, _≤_, length, drop, written, writtenLength};
+ghost use Rattle.laws.proofs.Digits.{lastDigits};
+ghost use Rattle.decimal.specs.Digits.{decimal};
 use crate::count::digit_count;
 
 // Writes the digits of value at the start of rest and answers how many there are.

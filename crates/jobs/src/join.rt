@@ -1,6 +1,6 @@
 // A further chain joins a set as its highest-numbered one.
 ghost use Rattle.laws.specs.Words.{_≡_, [], _+_, _≤_, lastOf};
-ghost use Rattle.jobs.specs.{Limits.maxJobs, Jobs.noJob, Jobs.jobsOf, Jobs.setOf, Checks.recordsCheck, Joins.renumbered, Joins.joinOf};
+ghost use Rattle.jobs.specs.{Limits.maxJobs, Jobs.job as Jobs·job, Jobs.noJob, Jobs.jobsOf, Jobs.setOf, Checks.recordsCheck, Joins.joinOf};
 use crate::check::check_records;
 use crate::job::Job;
 use crate::record::check_record;
@@ -44,7 +44,7 @@ fn last_of(set: JobSet) -> Job
 
 // A job under another chain and job number.
 fn renumber(chain: u64, number: u64, job: Job) -> Job
-    ensures { λ r. ⌜ r ≡ renumbered chain number job ⌝ }
+    ensures { λ r. ⌜ r ≡ Jobs·job chain number (job .release) (job .priority) (job .least) (job .most) (job .deadline) ⌝ }
 {
     Job {
         chain,

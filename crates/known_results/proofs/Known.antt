@@ -9,7 +9,7 @@ use mathlib.Core.List.{List, [], _∷_, map}
 use native.Mathlib.Omega.{arith}
 use lib.IntN.{pos}
 use lib.ListN.{length, getD}
-use Rattle.laws.specs.Words.{sumBelow, tabulate, greatest, lastOf, everyBelow}
+use Rattle.laws.specs.Words.{sumBelow, tabulate, greatest, lastOf, everyBelow, sameUpTo}
 use Rattle.jobs.specs.declared.job.Job.{Job}
 use Rattle.jobs.specs.declared.refusal.Check.the-variants.{Passed}
 use Rattle.jobs.specs.Checks.{isNext, inLimits, recordCheck, recordsCheck, checkOf}
@@ -17,7 +17,7 @@ use Rattle.jobs.specs.Jobs.{jobAt, urgencyOf}
 use Rattle.theory.specs.Table.{joined, effectiveRelease, tableOf}
 use Rattle.theory.specs.Interference.{openBlock, largestBlock, interference}
 use Rattle.theory.specs.Bounds.{ertRule, interferenceAt, ert, demand, lowest, pairBound, largestPair, cjaWith, cja, boundAt}
-use Rattle.theory.specs.Rounds.{itrStart, overlap, round, sameBounds, settle, roundLimit, itr}
+use Rattle.theory.specs.Rounds.{itrStart, overlap, round, settle, roundLimit, itr}
 use Rattle.theory.specs.Verdicts.{slack, slacks, meets}
 use Rattle.theory.specs.Claims.{Demand3}
 use Rattle.theory.proofs.Claims.{claims}
@@ -92,7 +92,7 @@ first-and-rest : {A : Type 0} {x y : A} {xs ys : List A} → x ≡ y → xs ≡ 
 first-and-rest e f = rw (e, f)
 
 pub known-results : map byDefinition cases ≡ cases
-unfolding EachSettled urgencyOf tabulate sumBelow greatest lastOf isNext inLimits recordCheck recordsCheck checkOf joined effectiveRelease openBlock largestBlock interference ertRule interferenceAt ert demand lowest pairBound largestPair cjaWith cja itrStart overlap round sameBounds settle roundLimit itr slacks meets everyBelow inRange timesFit machineCheck complete predecessorComplete ready outranks better bestUpTo pick next noted rows onward carried
+unfolding EachSettled urgencyOf tabulate sumBelow greatest lastOf isNext inLimits recordCheck recordsCheck checkOf joined effectiveRelease openBlock largestBlock interference ertRule interferenceAt ert demand lowest pairBound largestPair cjaWith cja itrStart overlap round sameUpTo settle roundLimit itr slacks meets everyBelow inRange timesFit machineCheck complete predecessorComplete ready outranks better bestUpTo pick next noted rows onward carried
 known-results =
     first-and-rest (figures p1 refl refl refl refl refl refl refl (refl, omega arith, refl, refl, (refl, omega arith, refl, refl, tt)))
     (first-and-rest (figures (p4 12 (pos 0) true) refl refl refl refl refl refl refl (refl, omega arith, refl, refl, tt))

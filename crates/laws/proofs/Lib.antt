@@ -1,9 +1,12 @@
 pub mod Tests
 pub mod Every
+pub mod Same
 pub mod Sums
 pub mod Greatest
 pub mod Tabulate
 pub mod Lists
+pub mod Lines
+pub mod Digits
 pub mod Filling
 pub mod Buffers
 pub mod Pieces

@@ -5,6 +5,7 @@ pub use Prim.Native.Nat.{ℕ, zero, suc, _+_, _-_, _*_, _/_, _%_, _^_, _≤_, _<
 pub use mathlib.Core.Path.{_≡_}
 pub use mathlib.Core.Logic.{_⊎_, _≢_}
 pub use mathlib.Core.Bool.{Bool, true, false, cond, not, _&&_, _||_}
+pub use mathlib.Core.Option.{Option, none, some}
 pub use mathlib.Core.List.{List, [], _∷_, _++_, map}
 pub use lib.Dec.{leb, ltb, eqb}
 pub use lib.ListN.{length, getD, set, take, drop, replicate}
@@ -24,6 +25,10 @@ greatest (suc n) f = max (greatest n f) (f n)
 unfoldable pub everyBelow : ℕ → (ℕ → Bool) → Bool
 everyBelow zero f = true
 everyBelow (suc n) f = everyBelow n f && f n
+
+-- Whether two lists have the same numbers at the first n places, with 0 beyond their last.
+unfoldable pub sameUpTo : ℕ → List ℕ → List ℕ → Bool
+sameUpTo n a b = everyBelow n (λ i. eqb (getD a i 0) (getD b i 0))
 
 -- The list f i, f (i + 1), …, of n elements.
 unfoldable pub tabulate : {A : Type 0} → ℕ → ℕ → (ℕ → A) → List A
@@ -47,3 +52,11 @@ ascii (c then text) = code c ∷ ascii text
 -- The buffer with the text from the place `at` on, and all else as it was.
 unfoldable pub patched : {A : Type 0} → List A → ℕ → List A → List A
 patched buffer at text = take at buffer ++ text ++ drop (at + length text) buffer
+
+-- The buffer with the text at its start; where the text does not fit, the buffer as it was.
+unfoldable pub written : List ℕ → List ℕ → List ℕ
+written text buffer = cond (leb (length text) (length buffer)) (patched buffer 0 text) buffer
+
+-- How many bytes were written: the text's length, and 0 where it does not fit.
+unfoldable pub writtenLength : List ℕ → List ℕ → ℕ
+writtenLength text buffer = cond (leb (length text) (length buffer)) (length text) 0

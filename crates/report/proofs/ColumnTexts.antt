@@ -12,7 +12,6 @@ use borrow.Author.Tests.{eq-eqb, ne-eqb}
 use Rattle.laws.proofs.Tests.{by-equal}
 use Rattle.decimal.specs.Digits.{digitCount, decimal}
 use Rattle.decimal.proofs.Counts.{count-within}
-use Rattle.decimal.proofs.Values.{length-decimal}
 use Rattle.report.specs.Rows.{afterCommas, columnsText}
 
 -- a number as column k: with a comma before all but the first
@@ -26,10 +25,10 @@ pub later-text : (k value : ℕ) → (k ≡ 0 → ⊥) → columnText k value �
 later-text k value h = rw (ne-eqb k 0 h)
 
 pub first-length : (k value : ℕ) → k ≡ 0 → length (columnText k value) ≡ digitCount value
-first-length k value e = ap length (first-text k value e) ∙ length-decimal value
+first-length k value e = ap length (first-text k value e)
 
 pub later-length : (k value : ℕ) → (k ≡ 0 → ⊥) → length (columnText k value) ≡ digitCount value + 1
-later-length k value h = omega (arith, ap length (later-text k value h), length-decimal value)
+later-length k value h = omega (arith, ap length (later-text k value h))
 
 -- a number of 64 bits has at most 20 digits
 pub word-digits : (value : ℕ) → value < 2 ^ 64 → digitCount value ≤ 20

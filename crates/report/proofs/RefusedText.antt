@@ -6,10 +6,8 @@ use native.Mathlib.Omega.{arith}
 use lib.Dec.{leb}
 use lib.ListN.{length, length-append}
 use borrow.Author.Tests.{leb-true, leb-false}
-use Rattle.laws.specs.Words.{ascii}
+use Rattle.laws.specs.Words.{ascii, writtenLength}
 use Rattle.decimal.specs.Digits.{digitCount, decimal}
-use Rattle.decimal.specs.Writing.{writtenLength}
-use Rattle.decimal.proofs.Values.{length-decimal}
 use Rattle.decimal.proofs.Writing.{length-fits, length-short}
 use Rattle.laws.proofs.Tests.{by-test}
 use Rattle.jobs.specs.declared.refusal.Refusal.{Refusal}
@@ -28,7 +26,6 @@ refused-length refusal =
       length-append (decimal (numberOf refusal)) lineEnd,
       length-append (ascii "refused," ++ decimal (numberOf refusal)) lineEnd,
       length-append (ascii "refused,") (decimal (numberOf refusal)),
-      length-decimal (numberOf refusal),
     )
 
 pub refused-pieces : (refusal : Refusal) (number : ℕ) → number ≡ numberOf refusal → ((([] ++ ascii "refused,") ++ columnText 0 number) ++ lineEnd) ≡ refusedText refusal

@@ -8,7 +8,6 @@ use lib.ListN.{length, length-append}
 use mir.Syntax.{w64}
 use mir.Val.{SFits}
 use Rattle.decimal.specs.Digits.{signed}
-use Rattle.decimal.proofs.Values.{length-decimal}
 use Rattle.jobs.specs.declared.job.Job.{Job}
 use Rattle.report.specs.Rows.{columnsText, lineEnd, slackText, boundsRow}
 use Rattle.report.proofs.ColumnTexts.{word-digits}
@@ -16,8 +15,8 @@ use Rattle.report.proofs.ColumnTexts.{word-digits}
 -- an integer of 64 bits has at most 19 digits, and takes at most 21 bytes
 pub signed-word : (z : ℤ) → SFits w64 z → length (signed z) ≤ 21
 unfolding signed
-signed-word (pos n) f = omega (arith, length-decimal n, word-digits n (omega (arith, f .sfits)))
-signed-word (negsuc n) f = omega (arith, length-decimal (suc n), word-digits (suc n) (omega (arith, f .sfits)))
+signed-word (pos n) f = omega (arith, word-digits n (omega (arith, f .sfits)))
+signed-word (negsuc n) f = omega (arith, word-digits (suc n) (omega (arith, f .sfits)))
 
 pub slack-length : (z : ℤ) → length (slackText z) ≡ length (signed z) + 1
 unfolding slackText

@@ -1,6 +1,6 @@
 -- The line that a refusal prints, and what a program prints. Document 01, "Programs and the C side". Assumes nothing.
-use Rattle.laws.specs.Words.{ℕ, List, _++_, ascii}
-use Rattle.decimal.specs.{Digits.decimal, Writing.written, Writing.writtenLength}
+use Rattle.laws.specs.Words.{ℕ, List, _++_, ascii, written, writtenLength}
+use Rattle.decimal.specs.Digits.{decimal}
 use Rattle.jobs.specs.{declared.refusal.Refusal.Refusal, Refusals.numberOf}
 use Rattle.report.specs.{declared.written.Written.Written, Rows.lineEnd}
 

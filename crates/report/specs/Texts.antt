@@ -1,6 +1,5 @@
 -- Whole texts in a lent buffer. Document 01, "Programs and the C side", and number 9. Assumes nothing.
-use Rattle.laws.specs.Words.{ℕ, cond, List, _++_, map, leb, length, ascii}
-use Rattle.decimal.specs.Writing.{written}
+use Rattle.laws.specs.Words.{ℕ, cond, List, _++_, map, leb, length, ascii, written}
 use Rattle.jobs.specs.{declared.job.Job.Job, declared.refusal.Refusal.Refusal}
 use Rattle.table.specs.Tables.{onTable}
 use Rattle.theory.specs.{Table.tableOf, Bounds.ert, Bounds.cja, Rounds.itr, Verdicts.slacks}

@@ -1,6 +1,5 @@
 // The line that a refusal prints, and how much of a buffer a program prints.
-ghost use Rattle.laws.specs.Words.{_≡_};
-ghost use Rattle.decimal.specs.Writing.{written, writtenLength};
+ghost use Rattle.laws.specs.Words.{_≡_, written, writtenLength};
 ghost use Rattle.report.specs.Refusals.{refusedText, printLength, printLeft};
 use crate::columns::write_bytes;
 use crate::columns::write_column;

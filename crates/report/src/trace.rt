@@ -1,6 +1,5 @@
 // The trace text of a table.
-ghost use Rattle.laws.specs.Words.{_≡_, _++_, _*_, _≤_, length, padded};
-ghost use Rattle.decimal.specs.Writing.{written as Decimal·written};
+ghost use Rattle.laws.specs.Words.{_≡_, _++_, _*_, _≤_, length, padded, written as Laws·written};
 ghost use Rattle.jobs.specs.{Limits.maxJobs, Jobs.jobsOf, Checks.checkOf};
 ghost use Rattle.report.specs.Rows.{entriesText};
 ghost use Rattle.report.specs.Texts.{mostTimes, traceHeader, traceText, answerTo, answerFor, leftFor};
@@ -37,7 +36,7 @@ fn most_times(set: JobSet) -> [u64; JobSet::MAX_JOBS]
 // Writes the header and the rows; the length is worked out first, so that a short buffer stays as it was.
 fn write_trace(numbers: &[u64], count: usize, out: &mut [u8]) -> Written
     requires { ⌜ (4 * count ≤ length (now numbers)) × (count ≤ 2 * maxJobs) ⌝ }
-    ensures { λ r. ⌜ (r ≡ answerTo (traceHeader ++ entriesText (now (numbers .entry)) count) (now (out .entry))) × (now (out .exit) ≡ Decimal·written (traceHeader ++ entriesText (now (numbers .entry)) count) (now (out .entry))) ⌝ }
+    ensures { λ r. ⌜ (r ≡ answerTo (traceHeader ++ entriesText (now (numbers .entry)) count) (now (out .entry))) × (now (out .exit) ≡ Laws·written (traceHeader ++ entriesText (now (numbers .entry)) count) (now (out .entry))) ⌝ }
 {
     let header = HEADER;
     let length = header.len() + entries_length(numbers, count);
@@ -52,7 +51,7 @@ fn write_trace(numbers: &[u64], count: usize, out: &mut [u8]) -> Written
 // The trace text of an accepted set; the machine does not refuse its most times.
 fn trace_set(set: JobSet, out: &mut [u8]) -> Written
     requires { ⌜ checkOf (jobsOf set) ≡ Check.Passed ⌝ }
-    ensures { λ r. ⌜ (r ≡ answerTo (traceText (jobsOf set)) (now (out .entry))) × (now (out .exit) ≡ Decimal·written (traceText (jobsOf set)) (now (out .entry))) ⌝ }
+    ensures { λ r. ⌜ (r ≡ answerTo (traceText (jobsOf set)) (now (out .entry))) × (now (out .exit) ≡ Laws·written (traceText (jobsOf set)) (now (out .entry))) ⌝ }
 {
     let most = most_times(set);
     let mut numbers = [0u64; MAX_NUMBERS];

@@ -1,6 +1,7 @@
 -- A table that is read is an accepted set. Assumes nothing.
 use Prim.Native.Nat.{ℕ}
 use mathlib.Core.Bool.{Bool, true, false, cond}
+use mathlib.Core.Option.{Option, none, some}
 use mathlib.Core.List.{List, [], _∷_, _++_}
 use mathlib.Core.Path.{_≡_, refl, sym, ap, _∙_}
 use native.Mathlib.Omega.{arith}
@@ -17,9 +18,10 @@ use Rattle.jobs.specs.Checks.{recordsCheck, checkOf}
 use Rattle.jobs.proofs.Sets.{jobs-set}
 use Rattle.jobs.proofs.Checks.{nextCheck, records-append, records-none, records-passed, check-passed}
 use Rattle.table.specs.declared.reading.Reading.{Reading}
-use Rattle.table.specs.Lines.{linesOf}
-use Rattle.table.specs.Rows.{maxColumns, Row, row, noRow, rowOf}
-use Rattle.table.specs.Tables.{header, maxText, jobOf, refusedWith, thenRow, recordsFrom, same, underHeader, readingOf}
+use Rattle.table.specs.Lines.{linesOf, maxColumns, rowOf}
+use Rattle.table.specs.Tables.{header, maxText, jobOf, refusedWith, recordsFrom, underHeader, readingOf}
+use Rattle.table.proofs.Headers.{isLine}
+use Rattle.table.proofs.Records.{thenRow}
 
 -- a reading that passes holds an accepted set
 abbrev Accepts : Reading → Type 0
@@ -34,9 +36,9 @@ after-check : (o : Check) (rest : Reading) → (o ≡ Passed → Accepts rest) �
 after-check Passed rest f p = f refl p
 after-check (Refused x) rest f p = let z : _≡_ {A = ℕ} 0 1 = cc in absurd (omega arith)
 
-after-row : (r : Row) (rest : Job → Reading) → ((j : Job) → Accepts (rest j)) → Accepts (thenRow r rest)
-after-row (row values) rest f p = f (jobOf values) p
-after-row noRow rest f p = let z : _≡_ {A = ℕ} 0 1 = cc in absurd (omega arith)
+after-row : (r : Option (List ℕ)) (rest : Job → Reading) → ((j : Job) → Accepts (rest j)) → Accepts (thenRow r rest)
+after-row (some values) rest f p = f (jobOf values) p
+after-row none rest f p = let z : _≡_ {A = ℕ} 0 1 = cc in absurd (omega arith)
 
 records-accept : (before : List Job) (lines : List (List ℕ)) → recordsCheck [] before ≡ Passed → Accepts (recordsFrom before lines)
 unfolding recordsFrom
@@ -55,7 +57,7 @@ refused-accept x p = let z : _≡_ {A = ℕ} 0 1 = cc in absurd (omega arith)
 under-accept : (lines : List (List ℕ)) → Accepts (underHeader lines)
 under-accept [] = refused-accept NotHeader
 under-accept (line ∷ lines) =
-    by-header (same line header) (recordsFrom [] lines) (refusedWith NotHeader) (records-accept [] lines (records-none [])) (refused-accept NotHeader)
+    by-header (isLine header line) (recordsFrom [] lines) (refusedWith NotHeader) (records-accept [] lines (records-none [])) (refused-accept NotHeader)
 
 pub read-accepted : (text : List ℕ) → readingOf text .check ≡ Passed → checkOf (jobsOf (readingOf text .set)) ≡ Passed
 unfolding readingOf

@@ -2,6 +2,7 @@
 -- Assumes nothing.
 use Prim.Native.Nat.{ℕ, suc, _+_, _-_, _≤_}
 use mathlib.Core.Bool.{true, cond}
+use mathlib.Core.Option.{Option, none}
 use mathlib.Core.List.{List, [], _∷_, _++_}
 use mathlib.Core.Path.{_≡_, refl, sym, ap, _∙_}
 use native.Mathlib.Omega.{arith}
@@ -12,13 +13,12 @@ use lib.Dec.{eqb}
 use borrow.Author.Tests.{eq-eqb, ne-eqb, eqb-true}
 use Rattle.laws.proofs.Tests.{by-test, and-left}
 use Rattle.laws.proofs.Lists.{rest-is}
+use Rattle.laws.proofs.Lines.{isBreak, firstLine, inside, first-take}
 use Rattle.decimal.specs.declared.field.Field.{Field}
 use Rattle.decimal.specs.declared.field.Field.the-variants.{Number, NoNumber}
 use Rattle.decimal.specs.Fields.{digitRun, fieldOf}
 use Rattle.decimal.proofs.Fields.{digit-low, field-append, field-within}
-use Rattle.table.specs.Lines.{isBreak, firstLine}
-use Rattle.table.specs.Rows.{Row, thenField, fieldsIn}
-use Rattle.table.proofs.Lines.{inside, first-take}
+use Rattle.table.specs.Lines.{fieldsIn}
 
 -- ---- what the contract of `read_column` writes out
 -- a field with one byte more in front
@@ -33,11 +33,15 @@ afterComma text = cond (eqb (getD text 0 0) 44) (withComma (fieldOf (drop 1 text
 abbrev pub columnOf : ℕ → List ℕ → Field
 columnOf k text = cond (eqb k 0) (fieldOf text) (afterComma text)
 
+-- what follows a field; where there is no number there is no row
+abbrev pub thenField : Field → (ℕ → ℕ → Option (List ℕ)) → Option (List ℕ)
+thenField f rest = elim f [ Number value n ↦ rest value n | NoNumber ↦ none ]
+
 -- ---- what is left of the line, with a comma before the first column, is read column by column
 abbrev pub ahead : ℕ → List ℕ → List ℕ
 ahead k line = cond (eqb k 0) (44 ∷ line) line
 
-past-comma : (f : Field) (b : ℕ) (line : List ℕ) (rest : ℕ → List ℕ → Row) → thenField f (λ v n. rest v (drop n line)) ≡ thenField (withComma f) (λ v n. rest v (drop n (b ∷ line)))
+past-comma : (f : Field) (b : ℕ) (line : List ℕ) (rest : ℕ → List ℕ → Option (List ℕ)) → thenField f (λ v n. rest v (drop n line)) ≡ thenField (withComma f) (λ v n. rest v (drop n (b ∷ line)))
 past-comma (Number v n) b line rest = ap (λ (i : ℕ). rest v (drop i (b ∷ line))) (sym (add-one n))
 past-comma NoNumber b line rest = refl
 
@@ -52,7 +56,6 @@ fields-ahead k before i line = by-test (eqb i 0) (λ t. rw t (unfold fieldsIn in
 
 -- ---- a text whose first line is empty begins with a CR, if with anything
 break-code : (b c : ℕ) → isBreak b c ≡ true → b ≡ 13
-unfolding isBreak
 break-code b c e = eqb-true b 13 (and-left (eqb b 13) (eqb c 10) e)
 
 run-none : (text : List ℕ) → firstLine text ≡ [] → digitRun text ≡ []

@@ -1,47 +1,43 @@
 -- A text that starts with the header: byte by byte, and as its first line. Assumes nothing.
 use Prim.Native.Nat.{ℕ, _+_, _≤_, _<_}
-use mathlib.Core.Bool.{Bool, true, false, cond, true≢false}
-use mathlib.Core.List.{List, [], _∷_}
+use mathlib.Core.Bool.{Bool, true, false, cond, _&&_}
+use mathlib.Core.List.{List, [], _∷_, _++_}
 use mathlib.Core.Path.{_≡_, refl, sym, ap, _∙_}
-use mathlib.Core.Logic.{inl}
+use mathlib.Core.Logic.{_≢_, inl}
 use native.Mathlib.Omega.{arith}
-use native.Mathlib.Numerals.{add-one}
-use lib.ListN.{length, getD, take, drop, drop-of-length-le, length-drop}
-use lib.Seq.{drop-cons}
-use lib.Dec.{eqb}
-use borrow.Author.Tests.{eq-eqb, ne-eqb, eqb-true, eqb-false}
-use Rattle.laws.proofs.Tests.{by-test}
+use lib.ListN.{length, getD, take, drop, length-append, length-take, length-drop, take-append-drop}
+use lib.Seq.{take-append-seam}
+use lib.Dec.{leb, eqb}
+use borrow.Author.Tests.{le-leb, lt-leb, leb-true, eq-eqb, ne-eqb, eqb-true, eqb-false}
+use Rattle.laws.specs.Words.{sameUpTo}
+use Rattle.laws.proofs.Tests.{by-test, both-ways, never-true, and-left, and-right, and-both}
+use Rattle.laws.proofs.Same.{same-not, same-whole, same-front, front-same}
+use Rattle.laws.proofs.Lines.{firstLine, afterLine, no-break, lineLength, after-within, first-take}
 use Rattle.table.specs.declared.line.End.{End}
 use Rattle.table.specs.declared.line.End.the-variants.{Here, Elsewhere}
-use Rattle.table.specs.Lines.{isBreak, firstLine, afterLine}
-use Rattle.table.specs.Tables.{header, same}
-use Rattle.table.proofs.Lines.{lineLength, no-break, endOf, after-within, end-within}
+use Rattle.table.specs.Tables.{header}
+use Rattle.table.proofs.Lines.{endOf, end-within}
 
 -- ---- what the contracts write out
 abbrev pub startsWith : List ℕ → List ℕ → Bool
-startsWith prefix text = same (take (length prefix) text) prefix
+startsWith prefix text = leb (length prefix) (length text) && sameUpTo (length prefix) text prefix
+
+abbrev pub isLine : List ℕ → List ℕ → Bool
+isLine line text = eqb (length text) (length line) && sameUpTo (length line) text line
 
 abbrev pub headerEnd : List ℕ → End
-headerEnd text = cond (same (firstLine text) header) (Here (lineLength text)) Elsewhere
+headerEnd text = cond (isLine header (firstLine text)) (Here (lineLength text)) Elsewhere
 
 -- ---- byte by byte
-module _ (prefix text : List ℕ) (i : ℕ) where
-  pub prefix-done : length prefix ≤ i → startsWith (drop i prefix) (drop i text) ≡ true
-  unfolding same
-  prefix-done h = rw (drop-of-length-le prefix h)
+module _ (prefix text : List ℕ) where
+  pub prefix-done : length prefix ≤ length text → sameUpTo (length prefix) text prefix ≡ true → startsWith prefix text ≡ true
+  prefix-done h e = and-both _ _ (le-leb (length prefix) (length text) h) e
 
-  pub prefix-short : i < length prefix → length text ≤ i → startsWith (drop i prefix) (drop i text) ≡ false
-  unfolding same
-  prefix-short h g = rw (drop-cons prefix i 0 h, drop-of-length-le text g)
+  pub prefix-short : length text < length prefix → startsWith prefix text ≡ false
+  prefix-short h = rw (lt-leb (length prefix) (length text) h)
 
-  pub prefix-differs : i < length prefix → i < length text → (getD text i 0 ≡ getD prefix i 0 → ⊥) → startsWith (drop i prefix) (drop i text) ≡ false
-  unfolding same
-  prefix-differs h g e = rw (drop-cons prefix i 0 h, drop-cons text i 0 g, ne-eqb (getD text i 0) (getD prefix i 0) e)
-
-  pub prefix-agrees : i < length prefix → i < length text → getD text i 0 ≡ getD prefix i 0
-      → startsWith (drop i prefix) (drop i text) ≡ startsWith (drop (i + 1) prefix) (drop (i + 1) text)
-  unfolding same
-  prefix-agrees h g e = rw (add-one, drop-cons prefix i 0 h, drop-cons text i 0 g, eq-eqb (getD text i 0) (getD prefix i 0) e)
+  pub prefix-differs : (i : ℕ) → i < length prefix → getD text i 0 ≢ getD prefix i 0 → startsWith prefix text ≡ false
+  prefix-differs i h ne = never-true _ (λ e. both-ways (and-right (leb (length prefix) (length text)) (sameUpTo (length prefix) text prefix) e) (same-not (length prefix) text prefix i h ne))
 
 -- ---- as the first line; the prefix holds no CR
 noReturn : List ℕ → Bool
@@ -59,56 +55,65 @@ unfolding afterLine
 after-plain b [] h = refl
 after-plain b (c ∷ text) h = rw (no-break b c (inl h))
 
+-- what stands behind the prefix goes on its line
+record GoesOn (prefix rest : List ℕ) : Type 0 where
+  line : firstLine (prefix ++ rest) ≡ prefix ++ firstLine rest
+  after : afterLine (prefix ++ rest) ≡ afterLine rest
+
+goes-on : (prefix rest : List ℕ) → noReturn prefix ≡ true → GoesOn prefix rest
+unfolding noReturn
+goes-on [] rest n = record { line = refl; after = refl }
+goes-on (p ∷ prefix) rest n =
+    by-test (eqb p 13) (λ t. absurd (both-ways n (rw t)))
+    (λ t.
+    let r = goes-on prefix rest (rw t at n) in
+    record {
+      line = first-plain p (prefix ++ rest) (eqb-false p 13 t) ∙ ap (λ (l : List ℕ). p ∷ l) (r .line);
+      after = after-plain p (prefix ++ rest) (eqb-false p 13 t) ∙ r .after;
+    })
+
+-- a line that starts with the prefix is the prefix where nothing follows
+line-append : (prefix rest : List ℕ) → isLine prefix (prefix ++ rest) ≡ eqb (length rest) 0
+line-append prefix rest =
+    by-test (eqb (length rest) 0)
+    (λ t.
+    let n : length (prefix ++ rest) ≡ length prefix = omega (arith, length-append prefix rest, eqb-true (length rest) 0 t) in
+    and-both _ _ (eq-eqb _ _ n) (front-same (prefix ++ rest) prefix (take-append-seam prefix rest)) ∙ sym t)
+    (λ t. rw (ne-eqb (length (prefix ++ rest)) (length prefix) (λ z. eqb-false (length rest) 0 t (omega (arith, length-append prefix rest)))) (sym t))
+
 -- a text that starts with the prefix
 record Starts (prefix text : List ℕ) : Type 0 where
   within : length prefix ≤ length text
-  line : same (firstLine text) prefix ≡ same (firstLine (drop (length prefix) text)) []
+  line : isLine prefix (firstLine text) ≡ eqb (length (firstLine (drop (length prefix) text))) 0
   after : afterLine (drop (length prefix) text) ≡ afterLine text
 
-starts-more : (p : ℕ) (prefix : List ℕ) (b : ℕ) (text : List ℕ) → (b ≡ 13 → ⊥) → eqb b p ≡ true → Starts prefix text → Starts (p ∷ prefix) (b ∷ text)
-unfolding same
-starts-more p prefix b text h q r =
+starts : (prefix text : List ℕ) → noReturn prefix ≡ true → startsWith prefix text ≡ true → Starts prefix text
+starts prefix text n e =
+    let rest = drop (length prefix) text in
+    let fits = leb (length prefix) (length text) in
+    let same = sameUpTo (length prefix) text prefix in
+    let short : length prefix ≤ length text = leb-true _ _ (and-left fits same e) in
+    let front : take (length prefix) text ≡ prefix = same-front text prefix short (and-right fits same e) in
+    let whole : prefix ++ rest ≡ text = ap (λ (l : List ℕ). l ++ rest) (sym front) ∙ take-append-drop (length prefix) text in
+    let r = goes-on prefix rest n in
     record {
-      within = omega (arith, r .within);
-      line = rw (first-plain b text h, q) (r .line);
-      after = r .after ∙ sym (after-plain b text h);
+      within = short;
+      line = ap (isLine prefix) (ap firstLine (sym whole) ∙ r .line) ∙ line-append prefix (firstLine rest);
+      after = sym (r .after) ∙ ap afterLine whole;
     }
 
-starts : (prefix text : List ℕ) → noReturn prefix ≡ true → startsWith prefix text ≡ true → Starts prefix text
-unfolding same noReturn
-starts [] text n e = record { within = omega arith; line = refl; after = refl }
-starts (p ∷ prefix) [] n e = absurd (true≢false (sym e))
-starts (p ∷ prefix) (b ∷ text) n e =
-    by-test (eqb p 13) (λ t. absurd (true≢false (sym (rw t at n))))
-    (λ t.
-    by-test (eqb b p) (λ q. starts-more p prefix b text (λ z. eqb-false p 13 t (omega (arith, eqb-true b p q))) q (starts prefix text (rw t at n) (rw q at e)))
-    (λ q. absurd (true≢false (sym (rw q at e)))))
-
--- a text that does not
-differs-here : (p : ℕ) (prefix : List ℕ) (b : ℕ) (text : List ℕ) → eqb b p ≡ false → same (firstLine (b ∷ text)) (p ∷ prefix) ≡ false
-unfolding same firstLine
-differs-here p prefix b [] q = rw q
-differs-here p prefix b (c ∷ text) q = by-test (isBreak b c) (λ t. rw t) (λ t. rw (t, q))
-
-differs-more : (p : ℕ) (prefix : List ℕ) (b : ℕ) (text : List ℕ) → (b ≡ 13 → ⊥) → eqb b p ≡ true → same (firstLine text) prefix ≡ false → same (firstLine (b ∷ text)) (p ∷ prefix) ≡ false
-unfolding same
-differs-more p prefix b text h q r = rw (first-plain b text h, q) r
-
-differs : (prefix text : List ℕ) → noReturn prefix ≡ true → startsWith prefix text ≡ false → same (firstLine text) prefix ≡ false
-unfolding same noReturn
-differs [] text n e = absurd (true≢false e)
-differs (p ∷ prefix) [] n e = unfold firstLine in refl
-differs (p ∷ prefix) (b ∷ text) n e =
-    by-test (eqb p 13) (λ t. absurd (true≢false (sym (rw t at n))))
-    (λ t.
-    by-test (eqb b p)
-    (λ q. differs-more p prefix b text (λ z. eqb-false p 13 t (omega (arith, eqb-true b p q))) q (differs prefix text (rw t at n) (rw q at e)))
-    (λ q. differs-here p prefix b text q))
+-- a text whose first line is the prefix starts with it
+line-starts : (prefix text : List ℕ) → isLine prefix (firstLine text) ≡ true → startsWith prefix text ≡ true
+line-starts prefix text e =
+    let fits = eqb (length (firstLine text)) (length prefix) in
+    let same = sameUpTo (length prefix) (firstLine text) prefix in
+    let line : firstLine text ≡ prefix = same-whole (firstLine text) prefix (eqb-true _ _ (and-left fits same e)) (and-right fits same e) in
+    let front : take (length prefix) text ≡ prefix = ap (λ (l : List ℕ). take (length l) text) (sym line) ∙ sym (first-take text) ∙ line in
+    prefix-done prefix text (omega (arith, ap length front, length-take (length prefix) text)) (front-same text prefix front)
 
 -- ---- the header
 pub not-header : (text : List ℕ) → startsWith header text ≡ false → Elsewhere ≡ headerEnd text
-unfolding noReturn
-not-header text e = rw (differs header text refl e)
+not-header text e = rw (never-true (isLine header (firstLine text)) (λ t. both-ways (line-starts header text t) e))
 
 module _ (text : List ℕ) (e : startsWith header text ≡ true) where
   begins : Starts header text
@@ -127,12 +132,12 @@ module _ (text : List ℕ) (e : startsWith header text ≡ true) where
   -- the header is the whole line, or there is more in it
   pub header-line : (n : ℕ) → endOf (drop (length header) text) ≡ Here n → Here (length header + n) ≡ headerEnd text
   header-line n f =
-      by-test (same (firstLine (drop (length header) text)) [])
+      by-test (eqb (length (firstLine (drop (length header) text))) 0)
       (λ t. let m : lineLength (drop (length header) text) ≡ n = cc (rw t at f) in rw (begins .line ∙ t, ← m) (ap Here whole))
       (λ t. let z : _≡_ {A = ℕ} 0 1 = cc (rw t at f) in absurd (omega arith))
 
   pub header-longer : endOf (drop (length header) text) ≡ Elsewhere → Elsewhere ≡ headerEnd text
   header-longer f =
-      by-test (same (firstLine (drop (length header) text)) [])
+      by-test (eqb (length (firstLine (drop (length header) text))) 0)
       (λ t. let z : _≡_ {A = ℕ} 0 1 = cc (rw t at f) in absurd (omega arith))
       (λ t. rw (begins .line ∙ t))

@@ -1,5 +1,6 @@
 -- The records of a table read line by line are those of its lines. Assumes nothing.
 use Prim.Native.Nat.{ℕ, suc, _+_, _≤_, _<_}
+use mathlib.Core.Option.{Option, none, some}
 use mathlib.Core.List.{List, [], _∷_, _++_}
 use mathlib.Core.Path.{_≡_, refl, sym, ap, ap₂, _∙_}
 use native.Mathlib.Omega.{arith}
@@ -7,6 +8,7 @@ use lib.ListN.{length, drop, getD, length-drop, drop-of-length-le}
 use lib.Seq.{drop-drop, drop-cons}
 use Rattle.laws.specs.Words.{lastOf, padded}
 use Rattle.laws.proofs.Lists.{last-snoc, getD-padded}
+use Rattle.laws.proofs.Lines.{firstLine, afterLine, lineLength, line-within, line-some, after-drop}
 use Rattle.jobs.specs.declared.job.Job.{Job}
 use Rattle.jobs.specs.declared.set.JobSet.{JobSet}
 use Rattle.jobs.specs.declared.refusal.Refusal.{Refusal}
@@ -22,39 +24,42 @@ use Rattle.jobs.proofs.Checks.{any-some}
 use Rattle.jobs.proofs.Accepted.{record-fine}
 use Rattle.table.specs.declared.line.Line.{Line}
 use Rattle.table.specs.declared.reading.Reading.{Reading}
-use Rattle.table.specs.Lines.{firstLine, afterLine, linesUpTo, linesOf}
-use Rattle.table.specs.Rows.{maxColumns, Row, row, noRow, rowOf}
-use Rattle.table.specs.Tables.{jobOf, refusedWith, thenRow, recordsFrom}
-use Rattle.table.proofs.Lines.{lineLength, line-within, line-some, after-drop, lines-cons}
+use Rattle.table.specs.Lines.{linesOf, maxColumns, rowOf}
+use Rattle.table.specs.Tables.{jobOf, refusedWith, recordsFrom}
+use Rattle.table.proofs.Lines.{lines-cons}
 use Rattle.table.proofs.Rows.{lineWith, lineOf}
 
 -- ---- one line
 job-padded : (values : List ℕ) → jobOf (padded maxColumns 0 values) ≡ jobOf values
 job-padded values = simp (getD-padded maxColumns 0 values)
 
+-- what follows a line that is seven fields; any other is refused
+abbrev pub thenRow : Option (List ℕ) → (Job → Reading) → Reading
+thenRow r rest = elim r [ none ↦ refusedWith MalformedLine | some values ↦ rest (jobOf values) ]
+
 -- what a line that passed says
 record Found (line : Line) (text : List ℕ) : Type 0 where
   job : (rest : Job → Reading) → thenRow (rowOf maxColumns (firstLine text)) rest ≡ rest (jobOf (line .values))
   taken : line .length ≡ lineLength text
 
-found-by : (r : Row) (text : List ℕ) → rowOf maxColumns (firstLine text) ≡ r → (line : Line) → line ≡ lineWith r (lineLength text) → line .check ≡ Passed → Found line text
-found-by (row values) text e line f p =
+found-by : (r : Option (List ℕ)) (text : List ℕ) → rowOf maxColumns (firstLine text) ≡ r → (line : Line) → line ≡ lineWith r (lineLength text) → line .check ≡ Passed → Found line text
+found-by (some values) text e line f p =
     record {
-      job = λ rest. ap (λ (r : Row). thenRow r rest) e ∙ ap rest (sym (ap (λ (l : Line). jobOf (l .values)) f ∙ job-padded values));
+      job = λ rest. ap (λ (r : Option (List ℕ)). thenRow r rest) e ∙ ap rest (sym (ap (λ (l : Line). jobOf (l .values)) f ∙ job-padded values));
       taken = ap (λ (l : Line). l .length) f;
     }
-found-by noRow text e line f p = let z : _≡_ {A = ℕ} 0 1 = cc (ap (λ (l : Line). l .check) f) in absurd (omega arith)
+found-by none text e line f p = let z : _≡_ {A = ℕ} 0 1 = cc (ap (λ (l : Line). l .check) f) in absurd (omega arith)
 
 found : (line : Line) (text : List ℕ) → line ≡ lineOf maxColumns text → line .check ≡ Passed → Found line text
 found line text e p = found-by (rowOf maxColumns (firstLine text)) text refl line e p
 
-malformed-by : (r : Row) (text : List ℕ) → rowOf maxColumns (firstLine text) ≡ r → (line : Line) → line ≡ lineWith r (lineLength text) → (x : Refusal) → line .check ≡ Refused x
+malformed-by : (r : Option (List ℕ)) (text : List ℕ) → rowOf maxColumns (firstLine text) ≡ r → (line : Line) → line ≡ lineWith r (lineLength text) → (x : Refusal) → line .check ≡ Refused x
     → (rest : Job → Reading) → thenRow (rowOf maxColumns (firstLine text)) rest ≡ refusedWith x
-malformed-by (row values) text e line f x p rest =
+malformed-by (some values) text e line f x p rest =
     let z : _≡_ {A = ℕ} 0 1 = cc (ap (λ (l : Line). l .check) f) in absurd (omega arith)
-malformed-by noRow text e line f x p rest =
+malformed-by none text e line f x p rest =
     let q : MalformedLine ≡ x = cc (ap (λ (l : Line). l .check) f) in
-    ap (λ (r : Row). thenRow r rest) e ∙ ap refusedWith q
+    ap (λ (r : Option (List ℕ)). thenRow r rest) e ∙ ap refusedWith q
 
 malformed : (line : Line) (text : List ℕ) → line ≡ lineOf maxColumns text → (x : Refusal) → line .check ≡ Refused x → (rest : Job → Reading) → thenRow (rowOf maxColumns (firstLine text)) rest ≡ refusedWith x
 malformed line text e = malformed-by (rowOf maxColumns (firstLine text)) text refl line e
@@ -68,27 +73,27 @@ pub record RecordsRead (rest : List ℕ) (s : JobSet) (last : Job) (at : ℕ) : 
 
 pub records-none : (rest : List ℕ) (s : JobSet) (last : Job) → s ≡ setOf [] → last ≡ noJob → RecordsRead rest s last 0
 records-none rest s last e f =
-    let none : jobsOf s ≡ [] = ap jobsOf e ∙ jobs-set [] in
+    let empty : jobsOf s ≡ [] = ap jobsOf e ∙ jobs-set [] in
     record {
       inside = omega arith;
-      holds = rw none e;
-      before = rw none (unfold lastOf in f);
-      follows = rw none;
+      holds = rw empty e;
+      before = rw empty (unfold lastOf in f);
+      follows = rw empty;
     }
 
 module _ {rest : List ℕ} {s : JobSet} {last : Job} {at : ℕ} (r : RecordsRead rest s last at) where
   -- ---- no line is left
   at-end : length rest ≤ at → recordsFrom (jobsOf s) [] ≡ recordsFrom [] (linesOf rest)
-  unfolding linesUpTo
+  unfolding linesOf
   at-end h = ap (λ (t : List ℕ). recordsFrom (jobsOf s) (linesOf t)) (sym (drop-of-length-le rest h)) ∙ r .follows
 
   pub records-empty : length rest ≤ at → s .count ≡ 0 → refusedWith NoRecord ≡ recordsFrom [] (linesOf rest)
   unfolding recordsFrom
-  records-empty h e = ap (λ (js : List Job). recordsFrom js []) (sym (none (jobsOf s) (length-jobs s ∙ e))) ∙ at-end h
+  records-empty h e = ap (λ (js : List Job). recordsFrom js []) (sym (empty (jobsOf s) (length-jobs s ∙ e))) ∙ at-end h
     where
-      none : (js : List Job) → length js ≡ 0 → js ≡ []
-      none [] e = refl
-      none (j ∷ js) e = absurd (omega arith)
+      empty : (js : List Job) → length js ≡ 0 → js ≡ []
+      empty [] e = refl
+      empty (j ∷ js) e = absurd (omega arith)
 
   pub records-end : length rest ≤ at → 0 < s .count → _≡_ {A = Reading} (record { check = Passed; set = s }) (recordsFrom [] (linesOf rest))
   unfolding recordsFrom

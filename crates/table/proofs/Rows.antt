@@ -1,5 +1,6 @@
 -- A line read field by field from the text is the row of the text's first line. Assumes nothing.
 use Prim.Native.Nat.{ℕ, suc, _+_, _-_, _≤_, _<_}
+use mathlib.Core.Option.{Option, none, some}
 use mathlib.Core.List.{List, [], _∷_, _++_}
 use mathlib.Core.Path.{_≡_, refl, sym, ap, ap₂, _∙_}
 use native.Mathlib.Omega.{arith}
@@ -10,6 +11,7 @@ use lib.Seq.{drop-drop, take-suc-set, length-take-le}
 use borrow.Author.Tests.{ne-eqb}
 use Rattle.laws.specs.Words.{padded}
 use Rattle.laws.proofs.Lists.{length-padded, padded-snoc}
+use Rattle.laws.proofs.Lines.{firstLine, afterLine, lineLength, after-within, inside}
 use Rattle.decimal.specs.declared.field.Field.{Field}
 use Rattle.decimal.specs.declared.field.Field.the-variants.{Number, NoNumber}
 use Rattle.jobs.specs.declared.refusal.Refusal.the-variants.{MalformedLine}
@@ -17,10 +19,9 @@ use Rattle.jobs.specs.declared.refusal.Check.the-variants.{Passed, Refused}
 use Rattle.table.specs.declared.line.End.{End}
 use Rattle.table.specs.declared.line.End.the-variants.{Here, Elsewhere}
 use Rattle.table.specs.declared.line.Line.{Line}
-use Rattle.table.specs.Lines.{firstLine, afterLine}
-use Rattle.table.specs.Rows.{maxColumns, Row, row, noRow, thenField, fieldsIn, rowOf}
-use Rattle.table.proofs.Lines.{lineLength, endOf, after-within, inside, end-empty, end-elsewhere, end-within}
-use Rattle.table.proofs.Columns.{columnOf, ahead, fields-ahead, column-line, column-within}
+use Rattle.table.specs.Lines.{maxColumns, fieldsIn, rowOf}
+use Rattle.table.proofs.Lines.{endOf, end-empty, end-elsewhere, end-within}
+use Rattle.table.proofs.Columns.{columnOf, thenField, ahead, fields-ahead, column-line, column-within}
 
 -- ---- a line that passed, one that is not so many fields, and the first line of a text
 abbrev passedLine : List ℕ → ℕ → Line
@@ -29,8 +30,8 @@ passedLine values n = record { check = Passed; values = values; length = n }
 abbrev pub malformedLine : Line
 malformedLine = record { check = Refused MalformedLine; values = padded maxColumns 0 []; length = 0 }
 
-abbrev pub lineWith : Row → ℕ → Line
-lineWith r n = elim r [ row values ↦ passedLine (padded maxColumns 0 values) n | noRow ↦ malformedLine ]
+abbrev pub lineWith : Option (List ℕ) → ℕ → Line
+lineWith r n = elim r [ some values ↦ passedLine (padded maxColumns 0 values) n | none ↦ malformedLine ]
 
 abbrev pub lineOf : ℕ → List ℕ → Line
 lineOf columns text = lineWith (rowOf columns (firstLine text)) (lineLength text)
@@ -41,7 +42,7 @@ lineFrom left before k at rest = lineWith (fieldsIn left before (ahead k (firstL
 
 -- where none is left, the line has to end
 abbrev ended : End → List ℕ → ℕ → Line
-ended (Here n) before at = lineWith (row before) (at + n)
+ended (Here n) before at = lineWith (some before) (at + n)
 ended Elsewhere before at = malformedLine
 
 at-end : (before : List ℕ) (at : ℕ) (rest line : List ℕ) → firstLine rest ≡ line → ended (endOf rest) before at ≡ lineWith (fieldsIn 0 before line) (at + lineLength rest)
@@ -104,8 +105,8 @@ module _ {columns : ℕ} {text values : List ℕ} {at k : ℕ} (room : (0 < colu
   -- no column is left
   last : (o : End) → columns ≤ k → endOf (drop at text) ≡ o → ended o (take k values) at ≡ lineOf columns text
   last o h e =
-      let none : columns - k ≡ 0 = omega arith in
-      rw (← e, at-end (take k values) at (drop at text) (firstLine (drop at text)) refl) (rw (none, ne-eqb k 0 (λ z. omega arith)) at (r .follows))
+      let done : columns - k ≡ 0 = omega arith in
+      rw (← e, at-end (take k values) at (drop at text) (firstLine (drop at text)) refl) (rw (done, ne-eqb k 0 (λ z. omega arith)) at (r .follows))
 
   pub fields-last : (n : ℕ) → endOf (drop at text) ≡ Here n → at + n ≤ length text
   fields-last n e = omega (arith, end-within (drop at text) n e, length-drop at text, r .inside)

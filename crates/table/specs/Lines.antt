@@ -1,28 +1,26 @@
--- The lines of a text. Document 01, "A job table". Assumes nothing.
-use Rattle.laws.specs.Words.{ℕ, zero, suc, Bool, cond, _&&_, List, [], _∷_, length, eqb}
+-- The lines of a text, and the fields of a line. Document 01, "A job table", and number 3. Assumes nothing.
+use Rattle.laws.specs.Words.{ℕ, zero, suc, cond, _&&_, Option, none, some, List, [], _∷_, _++_, drop, eqb}
+use Rattle.decimal.specs.{declared.field.Field.Field, Fields.fieldOf}
 
--- Whether two bytes are CR LF.
-unfoldable pub isBreak : ℕ → ℕ → Bool
-isBreak b c = eqb b 13 && eqb c 10
+-- The lines of a text: each is all that stands before the next CR LF, codes 13 and 10, or the end; none stands after a CR LF at the end.
+unfoldable pub linesOf : List ℕ → List (List ℕ)
+linesOf [] = []
+linesOf (b ∷ []) = (b ∷ []) ∷ []
+linesOf (b ∷ c ∷ text) =
+    cond (eqb b 13 && eqb c 10) ([] ∷ linesOf text) (elim (linesOf (c ∷ text)) [ [] ↦ (b ∷ []) ∷ [] | line ∷ lines ↦ (b ∷ line) ∷ lines ])
 
--- All that stands before the next CR LF or the end of the text, a lone CR or LF included.
-unfoldable pub firstLine : List ℕ → List ℕ
-firstLine [] = []
-firstLine (b ∷ []) = b ∷ []
-firstLine (b ∷ c ∷ text) = cond (isBreak b c) [] (b ∷ firstLine (c ∷ text))
+-- The most columns of a line.
+abbrev pub maxColumns : ℕ
+maxColumns = 7
 
--- All that stands after that line and its CR LF.
-unfoldable pub afterLine : List ℕ → List ℕ
-afterLine [] = []
-afterLine (b ∷ []) = []
-afterLine (b ∷ c ∷ text) = cond (isBreak b c) text (afterLine (c ∷ text))
+-- The values before and those of so many fields more, each after a comma, code 44, with nothing after them; none where it is not so.
+unfoldable pub fieldsIn : ℕ → List ℕ → List ℕ → Option (List ℕ)
+fieldsIn zero before [] = some before
+fieldsIn zero before (b ∷ text) = none
+fieldsIn (suc k) before [] = none
+fieldsIn (suc k) before (b ∷ text) =
+    cond (eqb b 44) (elim (fieldOf text) [ Field.Number value n ↦ fieldsIn k (before ++ (value ∷ [])) (drop n text) | Field.NoNumber ↦ none ]) none
 
--- The first n lines.
-unfoldable pub linesUpTo : ℕ → List ℕ → List (List ℕ)
-linesUpTo zero text = []
-linesUpTo (suc n) [] = []
-linesUpTo (suc n) (b ∷ text) = firstLine (b ∷ text) ∷ linesUpTo n (afterLine (b ∷ text))
-
--- The lines of a text, no more than its bytes; after a CR LF at its end no further line follows.
-abbrev pub linesOf : List ℕ → List (List ℕ)
-linesOf text = linesUpTo (length text) text
+-- The values of a line of so many fields with single commas: of the line with one more comma before it.
+abbrev pub rowOf : ℕ → List ℕ → Option (List ℕ)
+rowOf columns line = fieldsIn columns [] (44 ∷ line)

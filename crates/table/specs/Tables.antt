@@ -1,8 +1,8 @@
 -- A whole job table. Document 01, "A job table", and numbers 1 to 7. Assumes nothing.
-use Rattle.laws.specs.Words.{ℕ, Bool, true, false, cond, List, [], _∷_, _++_, length, getD, leb, eqb, lastOf, ascii}
+use Rattle.laws.specs.Words.{ℕ, cond, _&&_, none, some, List, [], _∷_, _++_, length, getD, leb, eqb, sameUpTo, lastOf, ascii}
 use Rattle.jobs.specs.declared.{job.Job.Job, refusal.Refusal.Refusal, refusal.Check.Check}
 use Rattle.jobs.specs.{Refusals.onPass, Jobs.job, Jobs.noJob, Jobs.jobsOf, Jobs.setOf, Checks.recordCheck, Checks.anyRecord}
-use Rattle.table.specs.{declared.reading.Reading.Reading, Lines.linesOf, Rows.maxColumns, Rows.Row, Rows.row, Rows.noRow, Rows.rowOf}
+use Rattle.table.specs.{declared.reading.Reading.Reading, Lines.linesOf, Lines.maxColumns, Lines.rowOf}
 
 -- The first line.
 abbrev pub header : List ℕ
@@ -20,29 +20,23 @@ jobOf values = let at = getD values in job (at 0 0) (at 1 0) (at 2 0) (at 3 0) (
 abbrev pub refusedWith : Refusal → Reading
 refusedWith refusal = record { check = Check.Refused refusal; set = setOf [] }
 
--- What follows a line that is seven fields; any other is refused with 3.
-abbrev pub thenRow : Row → (Job → Reading) → Reading
-thenRow (row values) rest = rest (jobOf values)
-thenRow noRow rest = refusedWith Refusal.MalformedLine
-
 -- 3 to 6 line by line after the records before, the first bad line deciding, then 7.
 unfoldable pub recordsFrom : List Job → List (List ℕ) → Reading
 recordsFrom before [] = record { check = anyRecord before; set = setOf before }
 recordsFrom before (line ∷ lines) =
-    thenRow (rowOf maxColumns line)
-    (λ j. let rest = recordsFrom (before ++ (j ∷ [])) lines in onPass (recordCheck (length before) (lastOf noJob before) j) refusedWith rest)
-
--- Whether two texts are the same.
-unfoldable pub same : List ℕ → List ℕ → Bool
-same [] [] = true
-same [] (b ∷ text) = false
-same (a ∷ line) [] = false
-same (a ∷ line) (b ∷ text) = cond (eqb a b) (same line text) false
+    elim (rowOf maxColumns line) [
+      | none ↦ refusedWith Refusal.MalformedLine
+      | some values ↦
+          let j = jobOf values in
+          let rest = recordsFrom (before ++ (j ∷ [])) lines in
+          onPass (recordCheck (length before) (lastOf noJob before) j) refusedWith rest
+    ]
 
 -- 2, then the lines under the header.
 abbrev pub underHeader : List (List ℕ) → Reading
 underHeader [] = refusedWith Refusal.NotHeader
-underHeader (line ∷ lines) = cond (same line header) (recordsFrom [] lines) (refusedWith Refusal.NotHeader)
+underHeader (line ∷ lines) =
+    cond (eqb (length line) (length header) && sameUpTo (length header) line header) (recordsFrom [] lines) (refusedWith Refusal.NotHeader)
 
 -- The answer to reading a text: its jobs, or the refusal with no jobs; 1 comes first.
 unfoldable pub readingOf : List ℕ → Reading

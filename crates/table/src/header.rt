@@ -1,6 +1,7 @@
 // The first line of a table.
-ghost use Rattle.laws.specs.Words.{_≡_, _-_, cond, length, take};
-ghost use Rattle.table.specs.{Lines.firstLine, Lines.afterLine, Tables.header, Tables.same};
+ghost use Rattle.laws.specs.Words.{_≡_, _-_, cond, _&&_, leb, eqb, length, sameUpTo};
+ghost use Rattle.laws.proofs.Lines.{firstLine, afterLine};
+ghost use Rattle.table.specs.{Tables.header};
 use crate::line::End;
 use crate::line::read_end;
 
@@ -8,7 +9,7 @@ const HEADER: [u8; 46] = *b"chain,job,release,priority,least,most,deadline";
 
 // Whether a text starts with these bytes.
 fn starts_with(text: &[u8], prefix: &[u8]) -> bool
-    ensures { λ r. ⌜ r ≡ same (take (length (now (prefix .entry))) (now (text .entry))) (now (prefix .entry)) ⌝ }
+    ensures { λ r. let size = length (now (prefix .entry)) in ⌜ r ≡ leb size (length (now (text .entry))) && sameUpTo size (now (text .entry)) (now (prefix .entry)) ⌝ }
 {
     let mut i: usize = 0;
     while i < prefix.len() {
@@ -25,7 +26,7 @@ fn starts_with(text: &[u8], prefix: &[u8]) -> bool
 
 // Whether the first line is the header, and how many bytes it takes with its end.
 pub(crate) fn read_header(text: &[u8]) -> End
-    ensures { λ r. let bytes = now (text .entry) in ⌜ r ≡ cond (same (firstLine bytes) header) (End.Here (length bytes - length (afterLine bytes))) End.Elsewhere ⌝ }
+    ensures { λ r. let bytes = now (text .entry) in let line = firstLine bytes in ⌜ r ≡ cond (eqb (length line) (length header) && sameUpTo (length header) line header) (End.Here (length bytes - length (afterLine bytes))) End.Elsewhere ⌝ }
 {
     let header = HEADER;
     if !starts_with(text, &header) {

@@ -1,7 +1,8 @@
 // One line of a table after the first: fields with single commas.
-ghost use Rattle.laws.specs.Words.{_≡_, _≤_, _<_, _+_, _-_, cond, eqb, [], length, drop, getD, padded};
+ghost use Rattle.laws.specs.Words.{_≡_, _≤_, _<_, _+_, _-_, cond, none, some, eqb, [], length, drop, getD, padded};
 ghost use Rattle.decimal.specs.Fields.{fieldOf};
-ghost use Rattle.table.specs.{Lines.firstLine, Lines.afterLine, Rows.maxColumns, Rows.row, Rows.noRow, Rows.rowOf, Tables.same};
+ghost use Rattle.laws.proofs.Lines.{firstLine, afterLine};
+ghost use Rattle.table.specs.Lines.{maxColumns, rowOf};
 use decimal::field::Field;
 use decimal::field::read_field;
 use jobs::refusal::Check;
@@ -47,7 +48,7 @@ fn read_column(rest: &[u8], k: usize) -> Field
 
 // Whether the first line of rest is empty, which it is at the end of the text and before a CR LF, and how many bytes its end takes.
 pub(crate) fn read_end(rest: &[u8]) -> End
-    ensures { λ r. let bytes = now (rest .entry) in ⌜ r ≡ cond (same (firstLine bytes) []) (End.Here (length bytes - length (afterLine bytes))) End.Elsewhere ⌝ }
+    ensures { λ r. let bytes = now (rest .entry) in ⌜ r ≡ cond (eqb (length (firstLine bytes)) 0) (End.Here (length bytes - length (afterLine bytes))) End.Elsewhere ⌝ }
 {
     if rest.len() == 0 {
         return End::Here { length: 0 };
@@ -67,7 +68,7 @@ pub(crate) fn read_end(rest: &[u8]) -> End
 // The first line of rest, where it is so many fields; each is read from where the last one ended.
 pub(crate) fn read_line(rest: &[u8], columns: usize) -> Line
     requires { ⌜ (0 < columns) × (columns ≤ maxColumns) ⌝ }
-    ensures { λ r. let bytes = now (rest .entry) in ⌜ r ≡ elim (rowOf columns (firstLine bytes)) [ row values ↦ record { check = Check.Passed; values = padded maxColumns 0 values; length = length bytes - length (afterLine bytes) } | noRow ↦ record { check = Check.Refused Refusal.MalformedLine; values = padded maxColumns 0 []; length = 0 } ] ⌝ }
+    ensures { λ r. let bytes = now (rest .entry) in ⌜ r ≡ elim (rowOf columns (firstLine bytes)) [ some values ↦ record { check = Check.Passed; values = padded maxColumns 0 values; length = length bytes - length (afterLine bytes) } | none ↦ record { check = Check.Refused Refusal.MalformedLine; values = padded maxColumns 0 []; length = 0 } ] ⌝ }
 {
     let mut values = [0u64; MAX_COLUMNS];
     let malformed = Line {

@@ -8,27 +8,18 @@ use mathlib.Core.List.{List}
 use native.Mathlib.Omega.{arith}
 use lib.Dec.{eqb}
 use lib.Seq.{ext-getD}
-use borrow.Author.Tests.{eqb-true, eqb-false, eq-eqb, ne-eqb}
-use Rattle.laws.specs.Words.{sumBelow}
+use borrow.Author.Tests.{eqb-false, eq-eqb, ne-eqb}
+use Rattle.laws.specs.Words.{sumBelow, sameUpTo}
 use Rattle.laws.proofs.Tests.{by-test, by-order, by-equal, by-last, both-ways, cond-le, cond-one}
-use Rattle.laws.proofs.Every.{every-at, every-all}
+use Rattle.laws.proofs.Same.{same-at, same-refl}
 use Rattle.laws.proofs.Sums.{sum-mono, sum-eq, sum-const, sum-skip}
 use Rattle.laws.proofs.Tabulate.{tabulate-ext}
 use Rattle.theory.specs.Table.{Table}
-use Rattle.theory.specs.Bounds.{boundAt, largestPair, cjaWith, cja}
-use Rattle.theory.specs.Rounds.{itrStart, overlap, round, after, sameBounds, Answer, settle, roundLimit, itr}
+use Rattle.theory.specs.Bounds.{largestPair, cjaWith, cja}
+use Rattle.theory.specs.Rounds.{itrStart, overlap, round, after, Answer, settle, roundLimit, itr}
 use Rattle.theory.specs.Claims.{AtMost, Repeats, Settled}
 use Rattle.theory.proofs.Rules.{length-after}
 use Rattle.theory.proofs.Monotone.{Fewer, pairs-mono, overlap-mono, round-le-cja, rounds-grow}
-
--- ---- the same bounds
-pub same-at : (n : ℕ) (a b : List ℕ) → sameBounds n a b ≡ true → (i : ℕ) → i < n → boundAt a i ≡ boundAt b i
-unfolding sameBounds
-same-at n a b e i l = eqb-true _ _ (every-at _ n i l e)
-
-pub same-refl : (n : ℕ) (a : List ℕ) → sameBounds n a a ≡ true
-unfolding sameBounds
-same-refl n a = every-all _ n (λ i l. eq-eqb (boundAt a i) (boundAt a i) refl)
 
 -- two choices that keep the same jobs give the same round
 pub round-by : (t : Table) (a b : List ℕ) → Fewer t (overlap t a) (overlap t b) → Fewer t (overlap t b) (overlap t a) → round t a ≡ round t b
@@ -122,39 +113,39 @@ module _ (t : Table) where
   abbrev Moved : ℕ → Type 0
   Moved n = (m : ℕ) → m < suc n → Repeats t m → ⊥
 
-  same-after : (n : ℕ) → sameBounds (t .count) (round t (after t n)) (after t n) ≡ true → after t (suc n) ≡ after t n
+  same-after : (n : ℕ) → sameUpTo (t .count) (round t (after t n)) (after t n) ≡ true → after t (suc n) ≡ after t n
   same-after n e =
       ext-getD 0 (after t (suc n)) (after t n) (length-after t (suc n) ∙ sym (length-after t n)) (λ i l.
       unfold after in same-at (t .count) (round t (after t n)) (after t n) e i (omega (arith, length-after t (suc n))))
 
-  differ-after : (n : ℕ) → sameBounds (t .count) (round t (after t n)) (after t n) ≡ false → after t (suc n) ≢ after t n
+  differ-after : (n : ℕ) → sameUpTo (t .count) (round t (after t n)) (after t n) ≡ false → after t (suc n) ≢ after t n
   unfolding after
-  differ-after n e q = both-ways (subst (λ (b : List ℕ). sameBounds (t .count) b (after t n) ≡ true) (sym q) (same-refl (t .count) (after t n))) e
+  differ-after n e q = both-ways (subst (λ (b : List ℕ). sameUpTo (t .count) b (after t n) ≡ true) (sym q) (same-refl (t .count) (after t n))) e
 
   moved-none : Moved 0
   moved-none zero l r = r
   moved-none (suc m) l r = omega arith
 
-  moved-more : (n : ℕ) → Moved n → sameBounds (t .count) (round t (after t n)) (after t n) ≡ false → Moved (suc n)
+  moved-more : (n : ℕ) → Moved n → sameUpTo (t .count) (round t (after t n)) (after t n) ≡ false → Moved (suc n)
   moved-more n moved e zero l r = r
   moved-more n moved e (suc m) l r = by-last m n (omega arith) (λ q. differ-after n e (rw q at r)) (λ ml. moved (suc m) (omega arith) r)
 
-  settle-stop : (fuel n : ℕ) (b : List ℕ) → sameBounds (t .count) (round t b) b ≡ true
+  settle-stop : (fuel n : ℕ) (b : List ℕ) → sameUpTo (t .count) (round t b) b ≡ true
       → settle t (suc fuel) n b ≡ record { bounds = round t b; rounds = suc n }
   unfolding settle
   settle-stop fuel n b e = rw (e, settle)
 
-  settle-more : (fuel n : ℕ) (b : List ℕ) → sameBounds (t .count) (round t b) b ≡ false → settle t (suc fuel) n b ≡ settle t fuel (suc n) (round t b)
+  settle-more : (fuel n : ℕ) (b : List ℕ) → sameUpTo (t .count) (round t b) b ≡ false → settle t (suc fuel) n b ≡ settle t fuel (suc n) (round t b)
   unfolding settle
   settle-more fuel n b e = rw (e, settle)
 
-  stops : (fuel n : ℕ) → suc n ≤ roundLimit t → Moved n → sameBounds (t .count) (round t (after t n)) (after t n) ≡ true
+  stops : (fuel n : ℕ) → suc n ≤ roundLimit t → Moved n → sameUpTo (t .count) (round t (after t n)) (after t n) ≡ true
       → Ends (settle t (suc fuel) n (after t n))
   stops fuel n l moved e =
       rw (settle-stop fuel n (after t n) e)
       (record { settled = record { made = unfold after in refl; last = same-after n e; first = λ m ml r. moved m (omega arith) r }; limit = l })
 
-  kept-more : (n : ℕ) → sameBounds (t .count) (round t (after t (suc n))) (after t (suc n)) ≡ false
+  kept-more : (n : ℕ) → sameUpTo (t .count) (round t (after t (suc n))) (after t (suc n)) ≡ false
       → keptAll t (after t n) < keptAll t (after t (suc n))
   kept-more n e =
       by-order (keptAll t (after t (suc n))) (keptAll t (after t n))
@@ -180,7 +171,7 @@ module _ (t : Table) where
   unfolding after
   settles zero n e c moved = absurd (omega (arith, limit-is, kept-most (after t n)))
   settles (suc fuel) n e c moved =
-      by-test (sameBounds (t .count) (round t (after t (suc n))) (after t (suc n)))
+      by-test (sameUpTo (t .count) (round t (after t (suc n))) (after t (suc n)))
       (λ q. stops fuel (suc n) (omega arith) moved q)
       (λ q.
       rw (settle-more fuel (suc n) (after t (suc n)) q)
@@ -190,7 +181,7 @@ module _ (t : Table) where
   unfolding after
   begins zero e = absurd (omega (arith, limit-is))
   begins (suc fuel) e =
-      by-test (sameBounds (t .count) (round t (itrStart t)) (itrStart t))
+      by-test (sameUpTo (t .count) (round t (itrStart t)) (itrStart t))
       (λ q. stops fuel 0 (omega arith) moved-none q)
       (λ q. rw (settle-more fuel 0 (itrStart t) q) (settles fuel 0 (omega arith) (omega arith) (moved-more 0 moved-none q)))
 

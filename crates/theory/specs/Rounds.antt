@@ -1,5 +1,5 @@
 -- ITR and its rounds. Document 01, "Bounds". Assumes nothing.
-use Rattle.laws.specs.Words.{ℕ, zero, suc, _+_, _*_, _-_, Bool, true, false, _&&_, List, ltb, eqb, everyBelow, tabulate}
+use Rattle.laws.specs.Words.{ℕ, zero, suc, _+_, _*_, _-_, Bool, true, false, _&&_, List, ltb, sameUpTo, tabulate}
 use Rattle.theory.specs.{Table.Table, Bounds.boundAt, Bounds.ertRule, Bounds.cjaWith}
 
 -- The start of ITR: the ERT rule with interference 0.
@@ -19,10 +19,6 @@ unfoldable pub after : Table → ℕ → List ℕ
 after t zero = itrStart t
 after t (suc n) = round t (after t n)
 
--- Whether two lists have the same bounds at the first n places.
-unfoldable pub sameBounds : ℕ → List ℕ → List ℕ → Bool
-sameBounds n a b = everyBelow n (λ i. eqb (boundAt a i) (boundAt b i))
-
 -- The answer of ITR: its bounds, and how many rounds there were.
 pub record Answer : Type 0 where
   pub bounds : List ℕ
@@ -33,7 +29,7 @@ unfoldable pub settle : Table → ℕ → ℕ → List ℕ → Answer
 settle t zero n previous = record { bounds = previous; rounds = n }
 settle t (suc fuel) n previous =
     let next = round t previous in
-    elim (sameBounds (t .count) next previous) [ true ↦ record { bounds = next; rounds = suc n } | false ↦ settle t fuel (suc n) next ]
+    elim (sameUpTo (t .count) next previous) [ true ↦ record { bounds = next; rounds = suc n } | false ↦ settle t fuel (suc n) next ]
 
 -- The limit of demand 3 on the number of rounds, which is never what ends them.
 unfoldable pub roundLimit : Table → ℕ

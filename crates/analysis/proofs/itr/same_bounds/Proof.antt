@@ -1,16 +1,16 @@
--- `same_bounds` answers `sameBounds`. The loop's invariant: the first i bounds are the same. Assumes nothing.
+-- `same_bounds` answers `sameUpTo`. The loop's invariant: the first i bounds are the same. Assumes nothing.
 use Prim.Native.Nat.{_-_, _≤_}
 use mathlib.Core.Path.{_≡_, sym}
 use mathlib.Core.Bool.{true}
 use native.Mathlib.Omega.{arith}
 use borrow.Author.Needs.{needs}
-use Rattle.theory.specs.Rounds.{sameBounds}
-use Rattle.analysis.proofs.Rounding.{same-none, same-more, same-not}
+use Rattle.laws.specs.Words.{sameUpTo}
+use Rattle.laws.proofs.Same.{same-none, same-more, same-not}
 use Rattle.analysis.proofs.itr.same_bounds.Statement.{statement}
 use Rattle.analysis.proofs.itr.same_bounds.Tie as tie
 
 abbrev Inv-loop : tie.InvT-loop
-Inv-loop count next previous i₀ i = (i ≤ count) × (sameBounds i next previous ≡ true)
+Inv-loop count next previous i₀ i = (i ≤ count) × (sameUpTo i next previous ≡ true)
 
 abbrev μ-loop : tie.MeasureT-loop
 μ-loop count next previous i₀ i = count - i

@@ -1,27 +1,29 @@
--- `starts_with` answers whether a text starts with these bytes. The loop's invariant: what follows the bytes so far decides. Assumes nothing.
-use Prim.Native.Nat.{_-_}
-use mathlib.Core.Path.{_≡_, refl, sym, _∙_}
-use lib.ListN.{length, drop}
+-- `starts_with` answers whether a text starts with these bytes. The loop's invariant: the first i bytes are the same. Assumes nothing.
+use Prim.Native.Nat.{_-_, _≤_}
+use mathlib.Core.Bool.{true}
+use mathlib.Core.Path.{_≡_, sym}
+use native.Mathlib.Omega.{arith}
+use lib.ListN.{length}
 use borrow.Author.Needs.{needs}
-use Rattle.table.proofs.Headers.{startsWith, prefix-done, prefix-short, prefix-differs, prefix-agrees}
+use Rattle.laws.specs.Words.{sameUpTo}
+use Rattle.laws.proofs.Same.{same-none, same-more}
+use Rattle.table.proofs.Headers.{prefix-done, prefix-short, prefix-differs}
 use Rattle.table.proofs.header.starts_with.Statement.{statement}
 use Rattle.table.proofs.header.starts_with.Tie as tie
 
 abbrev Inv-loop : tie.InvT-loop
-Inv-loop text prefix i₀ i = startsWith (drop i prefix) (drop i text) ≡ startsWith prefix text
+Inv-loop text prefix i₀ i = (i ≤ length prefix) × (i ≤ length text) × (sameUpTo i text prefix ≡ true)
 
 abbrev μ-loop : tie.MeasureT-loop
 μ-loop text prefix i₀ i = length prefix - i
 
 loop-holds : tie.Need-loop-holds Inv-loop μ-loop
-loop-holds c = refl
+loop-holds c = (omega arith, omega arith, same-none (c .args .text .now) (c .args .prefix .now))
 
 returns : tie.Need-returns Inv-loop μ-loop
 returns c =
-    let p = c .before .before .before .args .prefix .now in
-    let t = c .before .before .before .args .text .now in
-    let l = c .before .before .loop in
-    sym (prefix-short p t (l .i) (c .before .loop-test .taken) (c .if1 .taken)) ∙ l .inv
+    let a = c .before .before .before .args in
+    sym (prefix-short (a .prefix .now) (a .text .now) (omega (arith, c .before .loop-test .taken, c .if1 .taken)))
 
 shared-slice-read-if2 : tie.Need-shared-slice-read-if2 Inv-loop μ-loop
 shared-slice-read-if2 c = search needs
@@ -31,10 +33,8 @@ shared-slice-read-if2-2 c = search needs
 
 returns-2 : tie.Need-returns-2 Inv-loop μ-loop
 returns-2 c =
-    let p = c .before .before .before .before .before .before .args .prefix .now in
-    let t = c .before .before .before .before .before .before .args .text .now in
-    let l = c .before .before .before .before .before .loop in
-    sym (prefix-differs p t (l .i) (c .before .before .before .before .loop-test .taken) (c .before .before .before .if1 .left) (c .if2 .taken)) ∙ l .inv
+    let a = c .before .before .before .before .before .before .args in
+    sym (prefix-differs (a .prefix .now) (a .text .now) (c .before .before .before .before .before .loop .i) (c .before .before .before .before .loop-test .taken) (c .if2 .taken))
 
 add-i : tie.Need-add-i Inv-loop μ-loop
 add-i c = search needs
@@ -44,17 +44,18 @@ loop-less c = search needs
 
 loop-again : tie.Need-loop-again Inv-loop μ-loop
 loop-again c =
-    let p = c .before .before .before .before .before .before .args .prefix .now in
-    let t = c .before .before .before .before .before .before .args .text .now in
+    let a = c .before .before .before .before .before .before .args in
     let l = c .before .before .before .before .before .loop in
-    sym (prefix-agrees p t (l .i) (c .before .before .before .before .loop-test .taken) (c .before .before .before .if1 .left) (c .if2 .left)) ∙ l .inv
+    let h = c .before .before .before .before .loop-test .taken in
+    let g = c .before .before .before .if1 .left in
+    (omega arith, omega arith, same-more (l .i) (a .text .now) (a .prefix .now) (l .inv .2) (c .if2 .left))
 
 returns-3 : tie.Need-returns-3 Inv-loop μ-loop
 returns-3 c =
-    let p = c .before .before .args .prefix .now in
-    let t = c .before .before .args .text .now in
+    let a = c .before .before .args in
     let l = c .before .loop in
-    sym (prefix-done p t (l .i) (c .loop-test .left)) ∙ l .inv
+    let e : length (a .prefix .now) ≡ l .i = omega (arith, l .inv .0, c .loop-test .left) in
+    sym (prefix-done (a .prefix .now) (a .text .now) (omega (arith, l .inv .1)) (rw e (l .inv .2)))
 
 pub starts-with-spec : {M : Type 1} → statement M
 starts-with-spec =
