@@ -10,7 +10,7 @@ use native.Mathlib.Numerals.{add-one}
 use lib.Dec.{leb, eqb}
 use lib.ListN.{length, getD, drop, drop-of-length-le}
 use lib.Seq.{drop-cons}
-use borrow.Author.Tests.{le-leb, lt-leb, eq-eqb, ne-eqb, eqb-true, eqb-false}
+use borrow.Author.Tests.{le-leb, lt-leb, lt-ltb, eq-eqb, ne-eqb, eqb-true, eqb-false}
 use Rattle.laws.proofs.Tests.{by-test}
 use Rattle.decimal.specs.declared.field.Field.{Field}
 use Rattle.decimal.specs.declared.field.Field.the-variants.{Number, NoNumber}
@@ -73,11 +73,11 @@ from-longer (b ∷ text) v n pv pn h =
 -- a run of two digits or more is a numeral by its first digit and its length
 numeral-zero : (b c : ℕ) (run : List ℕ) → eqb b 48 ≡ true → isNumeral (b ∷ c ∷ run) ≡ false
 unfolding isNumeral leadingZero
-numeral-zero b c run z = simp (z, and-false)
+numeral-zero b c run z = simp (z, lt-ltb 1 (length (b ∷ c ∷ run)) (omega arith), and-false)
 
 numeral-longer : (b c : ℕ) (run : List ℕ) → eqb b 48 ≡ false → isNumeral (b ∷ c ∷ run) ≡ leb (length (b ∷ c ∷ run)) maxDigits
 unfolding isNumeral leadingZero
-numeral-longer b c run z = rw (z, le-leb 1 (length (b ∷ c ∷ run)) (omega arith)) (and-true (leb (length (b ∷ c ∷ run)) maxDigits))
+numeral-longer b c run z = rw (z, le-leb 1 (length (b ∷ c ∷ run)) (omega arith), lt-ltb 1 (length (b ∷ c ∷ run)) (omega arith)) (and-true (leb (length (b ∷ c ∷ run)) maxDigits))
 
 -- after the first digit: a second one after a 0, a second one after another, and none
 second-zero : (b c : ℕ) (text : List ℕ) → isDigit b ≡ true → isDigit c ≡ true → eqb b 48 ≡ true → fieldFrom (0 * 10 + (b - 48)) (0 + 1) (c ∷ text) ≡ fieldOf (b ∷ c ∷ text)

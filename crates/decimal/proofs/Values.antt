@@ -2,11 +2,12 @@
 -- Assumes nothing.
 use Prim.Native.Nat.{ℕ, zero, suc, _+_, _*_, _^_, _-_, _/_, _%_, _≤_, _<_}
 use mathlib.Core.Path.{_≡_, refl, _∙_}
-use mathlib.Core.Bool.{false}
+use mathlib.Core.Bool.{false, and-false}
 use mathlib.Core.List.{List, [], _∷_, _++_}
 use native.Mathlib.Omega.{arith}
 use lib.IntN.{ℤ, pos, negsuc, natAbs}
 use lib.ListN.{length, getD, List·getD-append}
+use lib.Dec.{ltb}
 use borrow.Author.Tests.{ne-eqb}
 use Rattle.decimal.specs.Digits.{decimal, signed, valueFrom}
 use Rattle.decimal.specs.Fields.{leadingZero}
@@ -51,9 +52,7 @@ first-decimal =
 
 leading-other : (s : List ℕ) → 48 < getD s 0 0 → leadingZero s ≡ false
 unfolding leadingZero
-leading-other [] h = refl
-leading-other (b ∷ []) h = refl
-leading-other (b ∷ c ∷ s) h = ne-eqb b 48 (λ e. omega arith)
+leading-other s h = rw (ne-eqb (getD s 0 0) 48 (λ e. omega arith)) (and-false (ltb 1 (length s)))
 
 -- no number has a leading zero; the digits of 0 are a single 0
 pub no-leading-zero : (n : ℕ) → leadingZero (decimal n) ≡ false

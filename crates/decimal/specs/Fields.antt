@@ -1,5 +1,5 @@
 -- A field of a table: a decimal number at the start of a text. Document 01, "A job table". Assumes nothing.
-use Rattle.laws.specs.Words.{ℕ, Bool, false, cond, not, _&&_, List, [], _∷_, leb, eqb, length}
+use Rattle.laws.specs.Words.{ℕ, Bool, cond, not, _&&_, List, [], _∷_, leb, ltb, eqb, length, getD}
 use Rattle.decimal.specs.{Digits.valueFrom, declared.field.Field.Field}
 
 -- Whether a byte is the code of a digit, 48 for 0 to 57 for 9.
@@ -17,9 +17,7 @@ maxDigits = 10
 
 -- Whether digits are a 0 with another digit after it.
 unfoldable pub leadingZero : List ℕ → Bool
-leadingZero [] = false
-leadingZero (b ∷ []) = false
-leadingZero (b ∷ c ∷ digits) = eqb b 48
+leadingZero digits = ltb 1 (length digits) && eqb (getD digits 0 0) 48
 
 -- Whether these are 1 to maxDigits digits, with no leading zero except in 0 itself.
 unfoldable pub isNumeral : List ℕ → Bool

@@ -1,7 +1,7 @@
 // The first line of a table.
 ghost use Rattle.laws.specs.Words.{_≡_, _-_, cond, _&&_, leb, eqb, length, sameUpTo};
 ghost use Rattle.laws.proofs.Lines.{firstLine, afterLine};
-ghost use Rattle.table.specs.{Tables.header};
+ghost use Rattle.table.specs.Tables.{header};
 use crate::line::End;
 use crate::line::read_end;
 

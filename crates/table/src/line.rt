@@ -1,7 +1,7 @@
 // One line of a table after the first: fields with single commas.
 ghost use Rattle.laws.specs.Words.{_≡_, _≤_, _<_, _+_, _-_, cond, none, some, eqb, [], length, drop, getD, padded};
-ghost use Rattle.decimal.specs.Fields.{fieldOf};
 ghost use Rattle.laws.proofs.Lines.{firstLine, afterLine};
+ghost use Rattle.decimal.specs.Fields.{fieldOf};
 ghost use Rattle.table.specs.Lines.{maxColumns, rowOf};
 use decimal::field::Field;
 use decimal::field::read_field;
