@@ -1,42 +1,23 @@
--- Rows of the bounds text and the trace text. Document 01, "Programs and the C side". Assumes nothing.
-use Rattle.laws.specs.Words.{ℕ, zero, suc, _+_, _*_, List, [], _∷_, _++_, ℤ, pos, getD, drop, ascii}
-use Rattle.decimal.specs.Digits.{decimal, signed}
+-- Rows of integers as lines, and the rows of the bounds text and the trace text. Document 01, "Programs and the C side". Assumes nothing.
+use Rattle.laws.specs.Words.{ℕ, _*_, List, [], _∷_, _++_, map, ℤ, pos, getD, take, drop, ascii}
+use Rattle.decimal.specs.Digits.{signed}
 use Rattle.jobs.specs.{declared.job.Job.Job, Jobs.jobAt}
 
--- CR LF.
-abbrev pub lineEnd : List ℕ
-lineEnd = ascii "\r\n"
-
--- Numbers, each after a comma, code 44.
-unfoldable pub afterCommas : List ℕ → List ℕ
+-- Integers, each after a comma, code 44.
+unfoldable pub afterCommas : List ℤ → List ℕ
 afterCommas [] = []
-afterCommas (value ∷ values) = (44 ∷ decimal value) ++ afterCommas values
+afterCommas (value ∷ values) = (44 ∷ signed value) ++ afterCommas values
 
--- Numbers as the columns of a line: without the first comma.
-abbrev pub columnsText : List ℕ → List ℕ
-columnsText values = drop 1 (afterCommas values)
+-- A line for each row: its integers without the first comma, and CR LF.
+unfoldable pub linesText : List (List ℤ) → List ℕ
+linesText [] = []
+linesText (row ∷ rows) = drop 1 (afterCommas row) ++ ascii "\r\n" ++ linesText rows
 
--- A comma and the slack, with its minus sign below zero.
-unfoldable pub slackText : ℤ → List ℕ
-slackText slack = 44 ∷ signed slack
+-- The row of job i in the bounds text: chain, job, the three bounds and the slack.
+abbrev pub boundsRow : List Job → List ℕ → List ℕ → List ℕ → List ℤ → ℕ → List ℤ
+boundsRow js ert cja itr slacks i =
+    pos (jobAt js i .chain) ∷ pos (jobAt js i .job) ∷ pos (getD ert i 0) ∷ pos (getD cja i 0) ∷ pos (getD itr i 0) ∷ getD slacks i (pos 0) ∷ []
 
--- A row of the bounds text: chain, job, the three bounds and the slack.
-unfoldable pub boundsRow : Job → ℕ → ℕ → ℕ → ℤ → List ℕ
-boundsRow j ert cja itr slack = columnsText (j .chain ∷ j .job ∷ ert ∷ cja ∷ itr ∷ []) ++ slackText slack ++ lineEnd
-
--- The rows of the first n jobs.
-unfoldable pub boundsRows : List Job → List ℕ → List ℕ → List ℕ → List ℤ → ℕ → List ℕ
-boundsRows js ert cja itr slacks zero = []
-boundsRows js ert cja itr slacks (suc n) =
-    boundsRows js ert cja itr slacks n
-    ++ boundsRow (jobAt js n) (getD ert n 0) (getD cja n 0) (getD itr n 0) (getD slacks n (pos 0))
-
--- The row of entry n in the numbers of a trace, four for each entry: chain, job, from, to.
-unfoldable pub entryText : List ℕ → ℕ → List ℕ
-entryText numbers n =
-    columnsText (getD numbers (4 * n) 0 ∷ getD numbers (4 * n + 1) 0 ∷ getD numbers (4 * n + 2) 0 ∷ getD numbers (4 * n + 3) 0 ∷ []) ++ lineEnd
-
--- The rows of the first n entries.
-unfoldable pub entriesText : List ℕ → ℕ → List ℕ
-entriesText numbers zero = []
-entriesText numbers (suc n) = entriesText numbers n ++ entryText numbers n
+-- The row of entry n in the trace text, of the numbers of a trace, four for each entry.
+abbrev pub entryRow : List ℕ → ℕ → List ℤ
+entryRow numbers n = map pos (take 4 (drop (4 * n) numbers))

@@ -1,11 +1,11 @@
 -- Whole texts in a lent buffer. Document 01, "Programs and the C side", and number 9. Assumes nothing.
-use Rattle.laws.specs.Words.{ℕ, cond, List, _++_, map, leb, length, ascii}
+use Rattle.laws.specs.Words.{ℕ, cond, List, _++_, map, leb, length, tabulate, ascii}
 use Rattle.decimal.specs.Writing.{written}
 use Rattle.jobs.specs.{declared.job.Job.Job, declared.refusal.Refusal.Refusal}
 use Rattle.table.specs.Tables.{onTable}
 use Rattle.theory.specs.{Table.tableOf, Bounds.ert, Bounds.cja, Rounds.itr, Verdicts.slacks}
 use Rattle.machine.specs.Traces.{rows, traced}
-use Rattle.report.specs.{declared.written.Written.Written, Rows.boundsRows, Rows.entriesText}
+use Rattle.report.specs.{declared.written.Written.Written, Rows.linesText, Rows.boundsRow, Rows.entryRow}
 
 -- The first line of the bounds text.
 abbrev pub boundsHeader : List ℕ
@@ -15,7 +15,7 @@ boundsHeader = ascii "chain,job,ert,cja,itr,slack\r\n"
 unfoldable pub boundsText : List Job → List ℕ
 boundsText js =
     let t = tableOf js in
-    boundsHeader ++ boundsRows js (ert t) (cja t) (itr t .bounds) (slacks js) (length js)
+    boundsHeader ++ linesText (tabulate 0 (length js) (boundsRow js (ert t) (cja t) (itr t .bounds) (slacks js)))
 
 -- The first line of the trace text.
 abbrev pub traceHeader : List ℕ
@@ -29,7 +29,7 @@ mostTimes js = map (λ (j : Job). j .most) js
 unfoldable pub traceText : List Job → List ℕ
 traceText js =
     let spans = traced js (mostTimes js) in
-    traceHeader ++ entriesText (rows js spans) (length spans)
+    traceHeader ++ linesText (tabulate 0 (length spans) (entryRow (rows js spans)))
 
 -- How many bytes a text takes in a buffer, or refusal 9.
 unfoldable pub answerTo : List ℕ → List ℕ → Written
