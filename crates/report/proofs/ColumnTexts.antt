@@ -14,7 +14,7 @@ use Rattle.laws.proofs.Tests.{by-equal}
 use Rattle.decimal.specs.Digits.{digitCount, decimal, signed}
 use Rattle.decimal.proofs.Counts.{count-within}
 use Rattle.decimal.proofs.Values.{length-decimal}
-use Rattle.report.specs.Rows.{afterCommas}
+use Rattle.report.specs.Texts.{afterCommas}
 use Rattle.report.proofs.Lines.{commas-append}
 
 -- numbers as the columns of a line

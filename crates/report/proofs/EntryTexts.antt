@@ -6,7 +6,7 @@ use native.Mathlib.Omega.{arith}
 use lib.ListN.{length, take, drop, getD, length-append}
 use lib.Seq.{drop-cons}
 use Rattle.laws.proofs.Pieces.{Made, PiecesWritten}
-use Rattle.report.specs.Rows.{entryRow}
+use Rattle.report.specs.Texts.{entryRow}
 use Rattle.report.proofs.Lines.{lineEnd, lineText, linesUpTo, line-is, lines-made}
 use Rattle.report.proofs.ColumnTexts.{columnsText}
 

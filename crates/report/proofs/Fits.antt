@@ -28,9 +28,7 @@ use Rattle.machine.specs.States.{lastTime}
 use Rattle.machine.specs.Traces.{row, rows, traced}
 use Rattle.machine.proofs.SpanTimes.{EndedBy, spans-ended}
 use Rattle.machine.proofs.Claims.{trace-within-twice}
-use Rattle.report.specs.Rows.{boundsRow}
-use Rattle.report.specs.Texts.{boundsHeader, boundsText, mostTimes, traceHeader, traceText}
-use Rattle.report.specs.Claims.{maxBytes, TextsFit}
+use Rattle.report.specs.Texts.{boundsHeader, boundsRow, boundsText, traceHeader, mostTimes, traceText, maxBytes, TextsFit}
 use Rattle.report.proofs.Lines.{lineText, linesUpTo, lines-within, Narrow, line-within}
 use Rattle.report.proofs.EntryTexts.{entriesText}
 use Rattle.report.proofs.MostTimes.{most-passed}
@@ -126,4 +124,4 @@ module _ (js : List Job) (passed : checkOf js ≡ Passed) where
       omega (arith, length-append traceHeader (entriesText (rows js ss) (length ss)), ap length (rows-spans js ss), spans-within ss (spans-ended (tableOf js) times lastTime), trace-within-twice js times (most-passed js passed), ok .few)
 
 pub texts-fit : TextsFit
-texts-fit js passed = record { bounds = bounds-fit js passed; trace = trace-fit js passed }
+texts-fit js passed = (bounds-fit js passed, trace-fit js passed)

@@ -10,7 +10,7 @@ use lib.ListN.{length, drop, length-append, length-drop}
 use Rattle.laws.specs.Words.{ascii, tabulate}
 use Rattle.laws.proofs.Pieces.{Made}
 use Rattle.decimal.specs.Digits.{signed}
-use Rattle.report.specs.Rows.{afterCommas, linesText}
+use Rattle.report.specs.Texts.{afterCommas, linesText}
 
 -- CR LF
 abbrev pub lineEnd : List ℕ

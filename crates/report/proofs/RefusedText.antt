@@ -15,8 +15,7 @@ use Rattle.laws.proofs.Tests.{by-test}
 use Rattle.jobs.specs.declared.refusal.Refusal.{Refusal}
 use Rattle.jobs.specs.declared.refusal.Refusal.the-variants.{TextTooLong, NotHeader, MalformedLine, TooManyRecords, OutOfOrder, OutOfLimits, NoRecord, RunningTimes, ShortBuffer, UnknownAlgorithm, ImpossibleState}
 use Rattle.jobs.specs.Refusals.{numberOf}
-use Rattle.report.specs.Rows.{afterCommas, linesText}
-use Rattle.report.specs.Refusals.{refusedText}
+use Rattle.report.specs.Texts.{afterCommas, linesText, refusedText}
 use Rattle.report.proofs.Lines.{lineEnd}
 use Rattle.report.proofs.ColumnTexts.{columnText, word-digits}
 

@@ -10,7 +10,7 @@ use mir.Val.{SFits}
 use Rattle.decimal.specs.Digits.{signed}
 use Rattle.decimal.proofs.Values.{length-decimal}
 use Rattle.jobs.specs.declared.job.Job.{Job}
-use Rattle.report.specs.Rows.{afterCommas}
+use Rattle.report.specs.Texts.{afterCommas}
 use Rattle.report.proofs.Lines.{lineEnd, lineText, commas-append, line-is}
 use Rattle.report.proofs.ColumnTexts.{columnsText, word-digits}
 

@@ -4,7 +4,7 @@ use mathlib.Core.List.{List}
 use lib.IntN.{ℤ}
 use Rattle.laws.proofs.Pieces.{Made, PiecesWritten}
 use Rattle.jobs.specs.declared.job.Job.{Job}
-use Rattle.report.specs.Rows.{boundsRow}
+use Rattle.report.specs.Texts.{boundsRow}
 use Rattle.report.proofs.Lines.{lineText, linesUpTo, lines-made}
 
 -- the line of the row at a place

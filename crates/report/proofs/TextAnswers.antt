@@ -23,8 +23,8 @@ use Rattle.theory.specs.Bounds.{ert, cja}
 use Rattle.theory.specs.Rounds.{itr}
 use Rattle.theory.specs.Verdicts.{slacks}
 use Rattle.report.specs.declared.written.Written.the-variants.{Bytes, Refused}
-use Rattle.report.specs.Rows.{linesText, boundsRow}
-use Rattle.report.specs.Texts.{boundsHeader, boundsText, answerTo}
+use Rattle.report.specs.Texts.{linesText, boundsHeader, boundsRow, boundsText}
+use Rattle.report.specs.Answers.{answerTo}
 use Rattle.report.proofs.RowsTexts.{boundsRows}
 
 pub answer-short : (text buffer : List ℕ) → length buffer < length text → Refused ShortBuffer ≡ answerTo text buffer

@@ -19,9 +19,8 @@ use Rattle.machine.specs.declared.trace.Traced.the-variants.{Entries, Refused a
 use Rattle.machine.specs.Traces.{row, rows, traced, traceOf, tracedIn}
 use Rattle.machine.proofs.Tracing.{rows-length, trace-written, traced-length}
 use Rattle.machine.proofs.Claims.{trace-within-twice}
-use Rattle.report.specs.Rows.{linesText, entryRow}
+use Rattle.report.specs.Texts.{linesText, traceHeader, entryRow, mostTimes, traceText}
 use Rattle.report.proofs.Lines.{lineText, lines-more}
-use Rattle.report.specs.Texts.{mostTimes, traceHeader, traceText}
 use Rattle.report.proofs.Wholes.{patched-start}
 use Rattle.report.proofs.EntryTexts.{entryText, entriesText}
 use Rattle.report.proofs.MostTimes.{most-passed}

@@ -2,7 +2,7 @@
 ghost use Rattle.laws.specs.Words.{_≡_, _++_, _≤_, tabulate};
 ghost use Rattle.decimal.specs.Writing.{written as Decimal·written};
 ghost use Rattle.jobs.specs.Limits.{maxJobs};
-ghost use Rattle.report.specs.{Rows.linesText, Rows.boundsRow, Texts.boundsHeader, Texts.boundsText, Texts.answerTo, Texts.answerFor, Texts.leftFor};
+ghost use Rattle.report.specs.{Texts.linesText, Texts.boundsHeader, Texts.boundsRow, Texts.boundsText, Answers.answerTo, Answers.answerFor, Answers.leftFor};
 use crate::columns::write_bytes;
 use crate::rows::rows_length;
 use crate::rows::write_rows;

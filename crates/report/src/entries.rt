@@ -1,7 +1,7 @@
 // The rows of the trace text: four numbers each, one row after another in a slice.
 ghost use Rattle.laws.specs.Words.{_≡_, _+_, _*_, _≤_, [], _∷_, length, getD, tabulate, patched};
 ghost use Rattle.jobs.specs.Limits.{maxJobs};
-ghost use Rattle.report.specs.Rows.{linesText, entryRow};
+ghost use Rattle.report.specs.Texts.{linesText, entryRow};
 use crate::columns::columns_length;
 use crate::columns::write_bytes;
 use crate::columns::write_columns;

@@ -1,6 +1,6 @@
 // A row of the bounds text.
 ghost use Rattle.laws.specs.Words.{_≡_, _+_, _≤_, [], _∷_, pos, length, patched};
-ghost use Rattle.report.specs.Rows.{afterCommas, linesText};
+ghost use Rattle.report.specs.Texts.{afterCommas, linesText};
 use crate::columns::columns_length;
 use crate::columns::write_bytes;
 use crate::columns::write_columns;

@@ -1,7 +1,7 @@
 // The rows of the bounds text.
 ghost use Rattle.laws.specs.Words.{_≡_, _+_, _*_, _≤_, length, tabulate, patched};
 ghost use Rattle.jobs.specs.Limits.{maxJobs};
-ghost use Rattle.report.specs.Rows.{linesText, boundsRow};
+ghost use Rattle.report.specs.Texts.{linesText, boundsRow};
 use crate::row::row_length;
 use crate::row::write_row;
 use jobs::set::JobSet;

@@ -2,8 +2,7 @@
 ghost use Rattle.laws.specs.Words.{_≡_, _++_, _*_, _≤_, length, tabulate, padded};
 ghost use Rattle.decimal.specs.Writing.{written as Decimal·written};
 ghost use Rattle.jobs.specs.{Limits.maxJobs, Jobs.jobsOf, Checks.checkOf};
-ghost use Rattle.report.specs.Rows.{linesText, entryRow};
-ghost use Rattle.report.specs.Texts.{mostTimes, traceHeader, traceText, answerTo, answerFor, leftFor};
+ghost use Rattle.report.specs.{Texts.linesText, Texts.traceHeader, Texts.entryRow, Texts.mostTimes, Texts.traceText, Answers.answerTo, Answers.answerFor, Answers.leftFor};
 use crate::columns::write_bytes;
 use crate::entries::entries_length;
 use crate::entries::write_entries;

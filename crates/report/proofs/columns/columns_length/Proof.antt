@@ -4,7 +4,7 @@ use mathlib.Core.Path.{_≡_, refl, ap, _∙_}
 use native.Mathlib.Omega.{arith}
 use lib.ListN.{length, take, getD, length-append}
 use borrow.Author.Needs.{needs}
-use Rattle.report.specs.Rows.{afterCommas}
+use Rattle.report.specs.Texts.{afterCommas}
 use Rattle.report.proofs.ColumnTexts.{columnsText, columnText, column-within, columns-next, columns-all}
 use Rattle.report.proofs.columns.columns_length.Statement.{statement}
 use Rattle.report.proofs.columns.columns_length.Tie as tie

@@ -5,7 +5,7 @@ use native.Mathlib.Omega.{arith}
 use lib.ListN.{length, length-append}
 use borrow.Author.Needs.{needs}
 use Rattle.laws.specs.Words.{tabulate}
-use Rattle.report.specs.Rows.{linesText}
+use Rattle.report.specs.Texts.{linesText}
 use Rattle.report.proofs.EntryTexts.{entryText, entriesText, entries-made}
 use Rattle.report.proofs.entries.entries_length.Statement.{statement}
 use Rattle.report.proofs.entries.entries_length.Tie as tie

@@ -8,7 +8,7 @@ use mir.Syntax.{w64}
 use mir.Facts.{toZ-ofZ}
 use borrow.Author.Needs.{needs}
 use Rattle.laws.specs.Words.{tabulate}
-use Rattle.report.specs.Rows.{linesText}
+use Rattle.report.specs.Texts.{linesText}
 use Rattle.report.proofs.RowsTexts.{rowAt, boundsRows, rows-made}
 use Rattle.report.proofs.rows.rows_length.Statement.{statement}
 use Rattle.report.proofs.rows.rows_length.Tie as tie
