@@ -1,6 +1,6 @@
 // The functions that C calls. Each answers a number from 0 on, or the number of the refusal negated.
 ghost use Rattle.laws.specs.Words.{_≡_};
-ghost use Rattle.report.specs.Texts.{boundsText, traceText, answerFor, leftFor};
+ghost use Rattle.report.specs.{Texts.boundsText, Texts.traceText, Answers.answerFor, Answers.leftFor};
 ghost use Rattle.cudlomer.specs.Codes.{refusalCode, writtenCode, verdictCode, verdictOfTable, roundsOfTable};
 use analysis::answer::Verdict;
 use analysis::itr::itr;

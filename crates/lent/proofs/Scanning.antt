@@ -1,6 +1,6 @@
 -- The scan over records: what it carries from one record to the next is what the table has there. Assumes nothing.
 use Prim.Native.Nat.{ℕ, zero, suc, _+_, _-_, max, min}
-use mathlib.Core.Path.{_≡_, refl, sym}
+use mathlib.Core.Path.{_≡_, refl, sym, ap}
 use mathlib.Core.Bool.{Bool, true, false, cond, _&&_, true≢false}
 use mathlib.Core.List.{List}
 use native.Mathlib.Omega.{arith}
@@ -17,9 +17,21 @@ use Rattle.theory.proofs.Releases.{release-first, release-next}
 use Rattle.machine.specs.declared.state.State.{State}
 use Rattle.machine.specs.States.{complete, predecessorComplete, ready}
 use Rattle.machine.specs.Pick.{better, bestUpTo}
+use Rattle.machine.specs.declared.pick.Best.{Best}
 use Rattle.machine.proofs.Picks.{best-step}
+use Rattle.machine.proofs.Scanned.{scanned}
 use Rattle.lent.specs.declared.scan.Scan.{Scan}
-use Rattle.lent.specs.Scans.{scanOf}
+
+-- ---- a scan, told by its figures
+abbrev pub figuresOf : Scan → Best × ℕ × ℕ × Bool × Bool × ℕ
+figuresOf scan = (scan .best, scan .last, scan .least, scan .done, scan .released, scan .since)
+
+abbrev pub scanFrom : Best × ℕ × ℕ × Bool × Bool × ℕ → Scan
+scanFrom f = record { best = f .0; last = f .1; least = f .2; done = f .3; released = f .4; since = f .5 }
+
+-- the scan of the first n records
+abbrev pub scanOf : List Job → List ℕ → State → ℕ → Scan
+scanOf js times s n = scanFrom (scanned js times s n)
 
 -- ---- arithmetic of effective releases
 released-both : (r b l time : ℕ) → leb r time && (leb b time && leb l (time - b)) ≡ leb (max r (b + l)) time
@@ -56,7 +68,7 @@ module _ (js : List Job) (times : List ℕ) (s : State) where
     predecessor : predecessorComplete t times (s .work) u ≡ true
 
   is-following : (u : ℕ) → follows (scanOf js times s u) (jobAt js u) u ≡ true → Following (scanOf js times s u) (jobAt js u) u
-  unfolding scanOf predecessorComplete joined
+  unfolding scanned predecessorComplete joined
   is-following zero h = absurd (true≢false (sym h))
   is-following (suc v) h =
       let same : eqb (t .chain v) (t .chain (suc v)) ≡ true = and-right (ltb 0 (suc v)) (eqb (t .chain v) (t .chain (suc v))) h in
@@ -69,7 +81,7 @@ module _ (js : List Job) (times : List ℕ) (s : State) where
       }
 
   is-leading : (u : ℕ) → follows (scanOf js times s u) (jobAt js u) u ≡ false → Leading (jobAt js u) u
-  unfolding scanOf predecessorComplete joined
+  unfolding scanned predecessorComplete joined
   is-leading zero h = record { earliest = unfold effectiveRelease in refl; predecessor = refl }
   is-leading (suc v) h =
       let other : eqb (t .chain v) (t .chain (suc v)) ≡ false = rw (lt-ltb 0 (suc v) (omega arith)) at h in
@@ -83,8 +95,8 @@ module _ (js : List Job) (times : List ℕ) (s : State) where
   released-by scan job u f =
       rw (f .earliest, f .released, f .since) (released-both (job .release) (f .before) (scan .least) (s .time))
 
-  best-so-far : (u : ℕ) → scanOf js times s u .best ≡ bestUpTo t times s u
-  unfolding scanOf
+  pub best-so-far : (u : ℕ) → scanOf js times s u .best ≡ bestUpTo t times s u
+  unfolding scanned
   best-so-far zero = refl
   best-so-far (suc v) = refl
 
@@ -98,10 +110,13 @@ module _ (js : List Job) (times : List ℕ) (s : State) where
   unready-complete u c = by-test (leb (t .earliest u) (s .time)) (λ e. rw (e, c)) (λ e. rw e)
 
 -- ---- what the scan says of a record
-module _ (js : List Job) (times : List ℕ) (s : State) {scan : Scan} {job : Job} (u : ℕ) (scanned : scan ≡ scanOf js times s u) (here : job ≡ jobAt js u) where
+module _ (js : List Job) (times : List ℕ) (s : State) {scan : Scan} {job : Job} (u : ℕ) (told : figuresOf scan ≡ scanned js times s u) (here : job ≡ jobAt js u) where
+  is-scan : scan ≡ scanOf js times s u
+  is-scan = ap scanFrom told
+
   module _ (h : follows scan job u ≡ true) where
     following : Following js times s scan job u
-    following = rw (scanned, here) (is-following js times s u (rw (scanned, here) at h))
+    following = rw (is-scan, here) (is-following js times s u (rw (is-scan, here) at h))
 
     pub released-following : leb (job .release) (s .time) && (scan .released && leb (scan .least) (scan .since)) ≡ leb (tableOf js .earliest u) (s .time)
     released-following = released-by js times s scan job u following
@@ -111,7 +126,7 @@ module _ (js : List Job) (times : List ℕ) (s : State) {scan : Scan} {job : Job
 
   module _ (h : follows scan job u ≡ false) where
     leading : Leading js times s job u
-    leading = rw here (is-leading js times s u (rw (scanned, here) at h))
+    leading = rw here (is-leading js times s u (rw (is-scan, here) at h))
 
     pub released-leading : leb (job .release) (s .time) ≡ leb (tableOf js .earliest u) (s .time)
     released-leading = rw (leading .earliest)
@@ -131,7 +146,7 @@ module _ (js : List Job) (times : List ℕ) (s : State) {scan : Scan} {job : Job
 
   -- ---- the best after it
   best-next : cond (ready (tableOf js) times s u) (better (scan .best) u (urgencyOf job) (job .chain)) (scan .best) ≡ bestUpTo (tableOf js) times s (suc u)
-  best-next = rw (scanned, here, ← add-one u) (best-step (tableOf js) times s (scanOf js times s u .best) u (best-so-far js times s u))
+  best-next = rw (is-scan, here, ← add-one u) (best-step (tableOf js) times s (scanOf js times s u .best) u (best-so-far js times s u))
 
   pub best-ready : ready (tableOf js) times s u ≡ true → better (scan .best) u (urgencyOf job) (job .chain) ≡ bestUpTo (tableOf js) times s (suc u)
   best-ready r = rw r at best-next

@@ -4,20 +4,20 @@ ghost use Rattle.laws.specs.Words.{_≡_, ℕ, suc, _-_, _&&_, List, length, ge
 ghost use Rattle.jobs.specs.Jobs.{jobAt};
 ghost use Rattle.theory.specs.Table.{tableOf};
 ghost use Rattle.machine.specs.{States.ready, Pick.bestUpTo};
-ghost use Rattle.lent.specs.Scans.{scanOf};
+ghost use Rattle.machine.proofs.Scanned.{scanned};
 use jobs::job::Job;
 use machine::pick::Best;
 use machine::pick::better_of;
 use machine::state::State;
 
 // What a scan knows: the most urgent ready job so far and, of the last record, chain, least time, whether it is complete, and whether and how long released.
-pub struct Scan {
-    pub best: Best,
-    pub last: u64,
-    pub least: u64,
-    pub done: bool,
-    pub released: bool,
-    pub since: u64,
+struct Scan {
+    best: Best,
+    last: u64,
+    least: u64,
+    done: bool,
+    released: bool,
+    since: u64,
 }
 
 // The number at a place, 0 beyond the end.
@@ -46,7 +46,7 @@ fn is_following(scan: Scan, job: Job, at: usize) -> bool
 
 // Whether the effective release of a record is at most the time.
 fn is_released(scan: Scan, job: Job, at: usize, time: u64) -> bool
-    ensures { λ r. ⌜ ((js : List Job) (times : List ℕ) (s : State) → scan ≡ scanOf js times s at → job ≡ jobAt js at → time ≡ s .time → r ≡ leb (tableOf js .earliest at) time) ⌝ }
+    ensures { λ r. ⌜ ((js : List Job) (times : List ℕ) (s : State) → (scan .best, scan .last, scan .least, scan .done, scan .released, scan .since) ≡ scanned js times s at → job ≡ jobAt js at → time ≡ s .time → r ≡ leb (tableOf js .earliest at) time) ⌝ }
 {
     if !is_following(scan, job, at) {
         return job.release <= time;
@@ -56,7 +56,7 @@ fn is_released(scan: Scan, job: Job, at: usize, time: u64) -> bool
 
 // The ticks since the effective release of a record, 0 where it is not released.
 fn since_release(scan: Scan, job: Job, at: usize, time: u64) -> u64
-    ensures { λ r. ⌜ ((js : List Job) (times : List ℕ) (s : State) → scan ≡ scanOf js times s at → job ≡ jobAt js at → time ≡ s .time → r ≡ time - tableOf js .earliest at) ⌝ }
+    ensures { λ r. ⌜ ((js : List Job) (times : List ℕ) (s : State) → (scan .best, scan .last, scan .least, scan .done, scan .released, scan .since) ≡ scanned js times s at → job ≡ jobAt js at → time ≡ s .time → r ≡ time - tableOf js .earliest at) ⌝ }
 {
     let own = minus(time, job.release);
     if !is_following(scan, job, at) {
@@ -71,7 +71,7 @@ fn since_release(scan: Scan, job: Job, at: usize, time: u64) -> u64
 
 // Whether a record is ready.
 fn is_ready_record(scan: Scan, job: Job, at: usize, times: &[u64], state: State) -> bool
-    ensures { λ r. ⌜ ((js : List Job) → scan ≡ scanOf js (now (times .entry)) state at → job ≡ jobAt js at → r ≡ ready (tableOf js) (now (times .entry)) state at) ⌝ }
+    ensures { λ r. ⌜ ((js : List Job) → (scan .best, scan .last, scan .least, scan .done, scan .released, scan .since) ≡ scanned js (now (times .entry)) state at → job ≡ jobAt js at → r ≡ ready (tableOf js) (now (times .entry)) state at) ⌝ }
 {
     let work = state.work;
     if !is_released(scan, job, at, state.time) {
@@ -88,7 +88,7 @@ fn is_ready_record(scan: Scan, job: Job, at: usize, times: &[u64], state: State)
 
 // The best of a scan after one more record.
 fn best_after(scan: Scan, job: Job, at: usize, times: &[u64], state: State) -> Best
-    ensures { λ r. ⌜ ((js : List Job) → scan ≡ scanOf js (now (times .entry)) state at → job ≡ jobAt js at → r ≡ bestUpTo (tableOf js) (now (times .entry)) state (suc at)) ⌝ }
+    ensures { λ r. ⌜ ((js : List Job) → (scan .best, scan .last, scan .least, scan .done, scan .released, scan .since) ≡ scanned js (now (times .entry)) state at → job ≡ jobAt js at → r ≡ bestUpTo (tableOf js) (now (times .entry)) state (suc at)) ⌝ }
 {
     if is_ready_record(scan, job, at, times, state) {
         return better_of(scan.best, at, Job::urgency(job), job.chain);
@@ -98,7 +98,7 @@ fn best_after(scan: Scan, job: Job, at: usize, times: &[u64], state: State) -> B
 
 // One record is looked at.
 fn look_at(scan: Scan, job: Job, at: usize, times: &[u64], state: State) -> Scan
-    ensures { λ r. ⌜ ((js : List Job) → scan ≡ scanOf js (now (times .entry)) state at → job ≡ jobAt js at → r ≡ scanOf js (now (times .entry)) state (suc at)) ⌝ }
+    ensures { λ r. ⌜ ((js : List Job) → (scan .best, scan .last, scan .least, scan .done, scan .released, scan .since) ≡ scanned js (now (times .entry)) state at → job ≡ jobAt js at → (r .best, r .last, r .least, r .done, r .released, r .since) ≡ scanned js (now (times .entry)) state (suc at)) ⌝ }
 {
     let work = state.work;
     let done = number_at(&work, at) == number_at(times, at);
@@ -116,8 +116,8 @@ fn look_at(scan: Scan, job: Job, at: usize, times: &[u64], state: State) -> Scan
 }
 
 // The most urgent ready job of the lent records, by the rule that a step uses.
-pub fn most_urgent(jobs: &[Job], times: &[u64], state: State) -> Scan
-    ensures { λ r. ⌜ r ≡ scanOf (now (jobs .entry)) (now (times .entry)) state (length (now (jobs .entry))) ⌝ }
+pub fn most_urgent(jobs: &[Job], times: &[u64], state: State) -> Best
+    ensures { λ r. ⌜ r ≡ bestUpTo (tableOf (now (jobs .entry))) (now (times .entry)) state (length (now (jobs .entry))) ⌝ }
 {
     let mut scan = Scan {
         best: Best {
@@ -138,5 +138,5 @@ pub fn most_urgent(jobs: &[Job], times: &[u64], state: State) -> Scan
         scan = look_at(scan, job, i, times, state);
         i += 1;
     }
-    scan
+    scan.best
 }

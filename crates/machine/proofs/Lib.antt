@@ -1,5 +1,6 @@
 pub mod Readiness
 pub mod Picks
+pub mod Scanned
 pub mod RunningTimes
 pub mod Figures
 pub mod Ticking

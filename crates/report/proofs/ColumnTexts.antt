@@ -1,18 +1,24 @@
 -- Columns one after another, and how many bytes they take. Assumes nothing.
 use Prim.Native.Nat.{ℕ, suc, _+_, _^_, _≤_, _<_}
-use mathlib.Core.List.{List, [], _∷_, _++_, append-assoc, append-nil}
-use mathlib.Core.Path.{_≡_, sym, ap, _∙_}
+use mathlib.Core.List.{List, [], _∷_, _++_, map, append-nil}
+use mathlib.Core.Path.{_≡_, refl, ap, _∙_}
 use mathlib.Core.Bool.{cond}
 use native.Mathlib.Omega.{arith}
 use native.Mathlib.Numerals.{add-one}
 use lib.Dec.{eqb}
+use lib.IntN.{ℤ, pos}
 use lib.ListN.{length, take, drop, getD}
 use lib.Seq.{take-suc, take-all, length-take-le}
 use borrow.Author.Tests.{eq-eqb, ne-eqb}
 use Rattle.laws.proofs.Tests.{by-equal}
-use Rattle.decimal.specs.Digits.{digitCount, decimal}
+use Rattle.decimal.specs.Digits.{digitCount, decimal, signed}
 use Rattle.decimal.proofs.Counts.{count-within}
-use Rattle.report.specs.Rows.{afterCommas, columnsText}
+use Rattle.report.specs.Texts.{afterCommas}
+use Rattle.report.proofs.Lines.{commas-append}
+
+-- numbers as the columns of a line
+abbrev pub columnsText : List ℕ → List ℕ
+columnsText values = drop 1 (afterCommas (map pos values))
 
 -- a number as column k: with a comma before all but the first
 abbrev pub columnText : ℕ → ℕ → List ℕ
@@ -40,14 +46,18 @@ column-within k value h =
     (λ e. omega (arith, first-length k value e, word-digits value h))
     (λ ne. omega (arith, later-length k value ne, word-digits value h))
 
-commas-snoc : (values : List ℕ) (value : ℕ) → afterCommas (values ++ (value ∷ [])) ≡ afterCommas values ++ (44 ∷ decimal value)
-unfolding afterCommas
-commas-snoc [] value = append-nil (44 ∷ decimal value)
-commas-snoc (v ∷ values) value =
-    ap (λ (l : List ℕ). (44 ∷ decimal v) ++ l) (commas-snoc values value) ∙ sym (append-assoc (44 ∷ decimal v) (afterCommas values) (44 ∷ decimal value))
+map-snoc : (values : List ℕ) (value : ℕ) → map pos (values ++ (value ∷ [])) ≡ map pos values ++ (pos value ∷ [])
+map-snoc [] value = refl
+map-snoc (v ∷ values) value = ap (λ (l : List ℤ). pos v ∷ l) (map-snoc values value)
+
+commas-snoc : (values : List ℕ) (value : ℕ) → afterCommas (map pos (values ++ (value ∷ []))) ≡ afterCommas (map pos values) ++ (44 ∷ decimal value)
+unfolding afterCommas signed
+commas-snoc values value =
+    rw (map-snoc values value)
+    (commas-append (map pos values) (pos value ∷ []) ∙ ap (λ (l : List ℕ). afterCommas (map pos values) ++ l) (append-nil (44 ∷ decimal value)))
 
 columns-snoc : (values : List ℕ) (value : ℕ) → columnsText (values ++ (value ∷ [])) ≡ columnsText values ++ columnText (length values) value
-unfolding afterCommas
+unfolding afterCommas signed
 columns-snoc [] value = append-nil (decimal value)
 columns-snoc (v ∷ values) value =
     rw (later-text (suc (length values)) value (λ e. omega arith)) (ap (drop 1) (commas-snoc (v ∷ values) value))

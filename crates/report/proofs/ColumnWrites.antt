@@ -11,8 +11,8 @@ use Rattle.laws.proofs.Buffers.{Wrote, wrote-none, wrote-one}
 use Rattle.laws.proofs.Pieces.{Made, PiecesWritten, pieces-none, pieces-end}
 use Rattle.decimal.specs.Digits.{decimal}
 use Rattle.decimal.proofs.Writing.{Writes, restFrom, wrote-written}
-use Rattle.report.specs.Rows.{afterCommas, columnsText}
-use Rattle.report.proofs.ColumnTexts.{columnText, first-text, later-text, columns-next}
+use Rattle.report.specs.Texts.{afterCommas}
+use Rattle.report.proofs.ColumnTexts.{columnsText, columnText, first-text, later-text, columns-next}
 
 -- a comma, and a text into the rest behind it
 pub comma-written : (text b : List ℕ) (at : ℕ) {count : ℕ} {after : List ℕ} → at + length (44 ∷ text) ≤ length b → Writes text (restFrom (at + 1) (set b at 44)) count after

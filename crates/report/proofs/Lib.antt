@@ -1,3 +1,4 @@
+pub mod Lines
 pub mod ColumnTexts
 pub mod ColumnWrites
 pub mod Bytes

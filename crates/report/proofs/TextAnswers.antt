@@ -1,13 +1,14 @@
 -- Whole texts: the answer of a writer, and the figures of an accepted set as rows. Assumes nothing.
-use Prim.Native.Nat.{ℕ, zero, suc, _≤_, _<_}
+use Prim.Native.Nat.{ℕ, _≤_, _<_}
 use mathlib.Core.List.{List, _++_}
-use mathlib.Core.Path.{_≡_, refl, sym, ap, ap₂, _∙_}
+use mathlib.Core.Path.{_≡_, sym, ap, _∙_}
 use native.Mathlib.Omega.{arith}
 use lib.IntN.{ℤ, pos}
 use lib.ListN.{length}
 use borrow.Author.Tests.{le-leb, lt-leb}
 use Rattle.laws.specs.Words.{padded}
 use Rattle.laws.proofs.Lists.{getD-padded}
+use Rattle.laws.proofs.Tabulate.{tabulate-ext}
 use Rattle.jobs.specs.declared.set.JobSet.{JobSet}
 use Rattle.jobs.specs.declared.refusal.Refusal.the-variants.{ShortBuffer}
 use Rattle.jobs.specs.declared.refusal.Check.the-variants.{Passed}
@@ -22,8 +23,9 @@ use Rattle.theory.specs.Bounds.{ert, cja}
 use Rattle.theory.specs.Rounds.{itr}
 use Rattle.theory.specs.Verdicts.{slacks}
 use Rattle.report.specs.declared.written.Written.the-variants.{Bytes, Refused}
-use Rattle.report.specs.Rows.{boundsRows}
-use Rattle.report.specs.Texts.{boundsHeader, boundsText, answerTo}
+use Rattle.report.specs.Texts.{linesText, boundsHeader, boundsRow, boundsText}
+use Rattle.report.specs.Answers.{answerTo}
+use Rattle.report.proofs.RowsTexts.{boundsRows}
 
 pub answer-short : (text buffer : List ℕ) → length buffer < length text → Refused ShortBuffer ≡ answerTo text buffer
 unfolding answerTo
@@ -36,11 +38,10 @@ answer-fits text buffer n h e = rw (le-leb (length text) (length buffer) h, e)
 -- ---- arrays that hold no more than their lists give the same rows
 rows-padded : (s : JobSet) (byErt byCja byItr : List ℕ) (each : List ℤ) (n : ℕ) → n ≤ s .count
     → boundsRows (s .jobs) (padded maxJobs 0 byErt) (padded maxJobs 0 byCja) (padded maxJobs 0 byItr) (padded maxJobs (pos 0) each) n ≡ boundsRows (jobsOf s) byErt byCja byItr each n
-unfolding boundsRows
-rows-padded s byErt byCja byItr each zero h = refl
-rows-padded s byErt byCja byItr each (suc n) h =
-    ap₂ (λ (a b : List ℕ). a ++ b) (rows-padded s byErt byCja byItr each n (omega arith))
-    (rw (getD-padded maxJobs 0 byErt n, getD-padded maxJobs 0 byCja n, getD-padded maxJobs 0 byItr n, getD-padded maxJobs (pos 0) each n, job-at s n h))
+rows-padded s byErt byCja byItr each n h =
+    ap linesText
+    (tabulate-ext 0 n (boundsRow (s .jobs) (padded maxJobs 0 byErt) (padded maxJobs 0 byCja) (padded maxJobs 0 byItr) (padded maxJobs (pos 0) each)) (boundsRow (jobsOf s) byErt byCja byItr each)
+    (λ k _ l. rw (getD-padded maxJobs 0 byErt k, getD-padded maxJobs 0 byCja k, getD-padded maxJobs 0 byItr k, getD-padded maxJobs (pos 0) each k, job-at s k (omega arith))))
 
 -- the rows of a set's figures
 abbrev pub figureRows : JobSet → Figures → List ℕ

@@ -1,17 +1,17 @@
 -- The trace text: the numbers that the machine leaves for the most times of an accepted set, read as rows. Assumes nothing.
 use Prim.Native.Nat.{ℕ, _*_, _≤_}
-use mathlib.Core.List.{List, [], _∷_, _++_, append-assoc, append-nil}
+use mathlib.Core.List.{List, [], _∷_, _++_, map, append-assoc, append-nil}
 use mathlib.Core.Path.{_≡_, refl, sym, ap, ap₂, _∙_}
 use native.Mathlib.Omega.{arith}
-use lib.ListN.{length, drop}
-use lib.Seq.{getD-append-seam, getD-append-add}
-use Rattle.laws.specs.Words.{patched}
+use lib.ListN.{length, take, drop}
+use lib.IntN.{pos}
+use lib.Seq.{drop-at}
+use Rattle.laws.specs.Words.{tabulate, patched}
 use Rattle.jobs.specs.declared.job.Job.{Job}
 use Rattle.jobs.specs.declared.refusal.Refusal.{Refusal}
 use Rattle.jobs.specs.declared.refusal.Check.the-variants.{Passed}
 use Rattle.jobs.specs.Limits.{maxJobs}
 use Rattle.jobs.specs.Checks.{checkOf}
-use Rattle.jobs.specs.Jobs.{jobAt}
 use Rattle.jobs.proofs.Accepted.{accepted}
 use Rattle.machine.specs.declared.trace.Span.{Span}
 use Rattle.machine.specs.declared.trace.Traced.{Traced}
@@ -19,39 +19,33 @@ use Rattle.machine.specs.declared.trace.Traced.the-variants.{Entries, Refused a
 use Rattle.machine.specs.Traces.{row, rows, traced, traceOf, tracedIn}
 use Rattle.machine.proofs.Tracing.{rows-length, trace-written, traced-length}
 use Rattle.machine.proofs.Claims.{trace-within-twice}
-use Rattle.report.specs.Rows.{columnsText, lineEnd, entryText, entriesText}
-use Rattle.report.specs.Texts.{mostTimes, traceHeader, traceText}
+use Rattle.report.specs.Texts.{linesText, traceHeader, entryRow, mostTimes, traceText}
+use Rattle.report.proofs.Lines.{lineText, lines-more}
 use Rattle.report.proofs.Wholes.{patched-start}
-use Rattle.report.proofs.EntryTexts.{entryValues}
+use Rattle.report.proofs.EntryTexts.{entryText, entriesText}
 use Rattle.report.proofs.MostTimes.{most-passed}
 
 -- ---- rows
 -- the row of a span
 abbrev pub spanText : List Job → Span → List ℕ
-spanText js s = columnsText (row js s) ++ lineEnd
+spanText js s = lineText (map pos (row js s))
 
 -- the rows of spans, the earliest first, which stands last in the list
 unfoldable pub spansText : List Job → List Span → List ℕ
 spansText js [] = []
 spansText js (s ∷ ss) = spansText js ss ++ spanText js s
 
-four-read : (w x y z : ℕ) (before rest : List ℕ) (n : ℕ) → length before ≡ 4 * n → entryValues (before ++ (w ∷ x ∷ y ∷ z ∷ rest)) n ≡ w ∷ x ∷ y ∷ z ∷ []
-four-read w x y z before rest n e =
-    let all = w ∷ x ∷ y ∷ z ∷ rest in
-    rw (← e, getD-append-seam before w (x ∷ y ∷ z ∷ rest) 0, getD-append-add before all 1 0, getD-append-add before all 2 0, getD-append-add before all 3 0)
-
 entry-span : (js : List Job) (s : Span) (before rest : List ℕ) (n : ℕ) → length before ≡ 4 * n → entryText (before ++ (row js s ++ rest)) n ≡ spanText js s
-unfolding entryText
 entry-span js s before rest n e =
-    let j = jobAt js (s .at) in
-    ap (λ (values : List ℕ). columnsText values ++ lineEnd) (four-read (j .chain) (j .job) (s .from) (s .to) before rest n e)
+    ap (λ (l : List ℕ). lineText (map pos (take 4 l))) (drop-at before (row js s ++ rest) (4 * n) e)
 
 entries-spans : (js : List Job) (ss : List Span) (rest : List ℕ) → entriesText (rows js ss ++ rest) (length ss) ≡ spansText js ss
-unfolding entriesText spansText rows
+unfolding linesText tabulate spansText rows
 entries-spans js [] rest = refl
 entries-spans js (s ∷ ss) rest =
     rw (append-assoc (rows js ss) (row js s) rest)
-    (ap₂ (λ (a b : List ℕ). a ++ b) (entries-spans js ss (row js s ++ rest)) (entry-span js s (rows js ss) rest (length ss) (rows-length js ss)))
+    (lines-more (entryRow (rows js ss ++ (row js s ++ rest))) (length ss)
+    ∙ ap₂ (λ (a b : List ℕ). a ++ b) (entries-spans js ss (row js s ++ rest)) (entry-span js s (rows js ss) rest (length ss) (rows-length js ss)))
 
 pub rows-spans : (js : List Job) (ss : List Span) → entriesText (rows js ss) (length ss) ≡ spansText js ss
 rows-spans js ss = rw (← append-nil (rows js ss)) (entries-spans js ss [])

@@ -1,4 +1,2 @@
-pub mod Rows
-pub mod Refusals
 pub mod Texts
-pub mod Claims
+pub mod Answers

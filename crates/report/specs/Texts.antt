@@ -1,24 +1,43 @@
--- Whole texts in a lent buffer. Document 01, "Programs and the C side", and number 9. Assumes nothing.
-use Rattle.laws.specs.Words.{ℕ, cond, List, _++_, map, leb, length, ascii, written}
-use Rattle.jobs.specs.{declared.job.Job.Job, declared.refusal.Refusal.Refusal}
-use Rattle.table.specs.Tables.{onTable}
+-- The texts that are printed: lines of integers with single commas. Document 01, "Programs and the C side". Assumes nothing.
+use Rattle.laws.specs.Words.{ℕ, _*_, _≤_, _≡_, List, [], _∷_, _++_, map, ℤ, pos, length, getD, take, drop, tabulate, ascii}
+use Rattle.decimal.specs.Digits.{signed}
+use Rattle.jobs.specs.declared.{job.Job.Job, refusal.Refusal.Refusal, refusal.Check.Check}
+use Rattle.jobs.specs.{Limits.maxJobs, Refusals.numberOf, Jobs.jobAt, Checks.checkOf}
 use Rattle.theory.specs.{Table.tableOf, Bounds.ert, Bounds.cja, Rounds.itr, Verdicts.slacks}
 use Rattle.machine.specs.Traces.{rows, traced}
-use Rattle.report.specs.{declared.written.Written.Written, Rows.boundsRows, Rows.entriesText}
+
+-- Integers, each after a comma, code 44.
+unfoldable pub afterCommas : List ℤ → List ℕ
+afterCommas [] = []
+afterCommas (value ∷ values) = (44 ∷ signed value) ++ afterCommas values
+
+-- A line for each row: its integers without the first comma, and CR LF.
+unfoldable pub linesText : List (List ℤ) → List ℕ
+linesText [] = []
+linesText (row ∷ rows) = drop 1 (afterCommas row) ++ ascii "\r\n" ++ linesText rows
 
 -- The first line of the bounds text.
 abbrev pub boundsHeader : List ℕ
 boundsHeader = ascii "chain,job,ert,cja,itr,slack\r\n"
 
+-- The row of job i in it: chain, job, the three bounds and the slack.
+abbrev pub boundsRow : List Job → List ℕ → List ℕ → List ℕ → List ℤ → ℕ → List ℤ
+boundsRow js byErt byCja byItr slack i =
+    pos (jobAt js i .chain) ∷ pos (jobAt js i .job) ∷ pos (getD byErt i 0) ∷ pos (getD byCja i 0) ∷ pos (getD byItr i 0) ∷ getD slack i (pos 0) ∷ []
+
 -- The bounds text of a list of jobs: a row for each, in table order.
 unfoldable pub boundsText : List Job → List ℕ
 boundsText js =
     let t = tableOf js in
-    boundsHeader ++ boundsRows js (ert t) (cja t) (itr t .bounds) (slacks js) (length js)
+    boundsHeader ++ linesText (tabulate 0 (length js) (boundsRow js (ert t) (cja t) (itr t .bounds) (slacks js)))
 
 -- The first line of the trace text.
 abbrev pub traceHeader : List ℕ
 traceHeader = ascii "chain,job,from,to\r\n"
+
+-- The row of entry n in it, of the numbers of a trace, four for each entry.
+abbrev pub entryRow : List ℕ → ℕ → List ℤ
+entryRow numbers n = map pos (take 4 (drop (4 * n) numbers))
 
 -- The most time of each job, in table order.
 unfoldable pub mostTimes : List Job → List ℕ
@@ -28,16 +47,16 @@ mostTimes js = map (λ (j : Job). j .most) js
 unfoldable pub traceText : List Job → List ℕ
 traceText js =
     let spans = traced js (mostTimes js) in
-    traceHeader ++ entriesText (rows js spans) (length spans)
+    traceHeader ++ linesText (tabulate 0 (length spans) (entryRow (rows js spans)))
 
--- How many bytes a text takes in a buffer, or refusal 9.
-unfoldable pub answerTo : List ℕ → List ℕ → Written
-answerTo text buffer = cond (leb (length text) (length buffer)) (Written.Bytes (length text)) (Written.Refused Refusal.ShortBuffer)
+-- The line that a refusal prints: `refused,` and the number.
+unfoldable pub refusedText : Refusal → List ℕ
+refusedText refusal = ascii "refused," ++ linesText ((pos (numberOf refusal) ∷ []) ∷ [])
 
--- The answer to writing a text of a table's jobs into a buffer: the refusals of reading come first, then 9.
-unfoldable pub answerFor : (List Job → List ℕ) → List ℕ → List ℕ → Written
-answerFor textOf table buffer = onTable table Written.Refused (λ js. answerTo (textOf js) buffer)
+-- The length of the buffers that the programs lend.
+abbrev pub maxBytes : ℕ
+maxBytes = 64 * maxJobs
 
--- The buffer after it, as it was where there is a refusal.
-unfoldable pub leftFor : (List Job → List ℕ) → List ℕ → List ℕ → List ℕ
-leftFor textOf table buffer = onTable table (λ refusal. buffer) (λ js. written (textOf js) buffer)
+-- `texts-fit`: such a buffer has room for both texts of an accepted set, so that none is refused with 9.
+abbrev pub TextsFit : Type 0
+TextsFit = (js : List Job) → checkOf js ≡ Check.Passed → (length (boundsText js) ≤ maxBytes) × (length (traceText js) ≤ maxBytes)

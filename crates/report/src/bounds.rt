@@ -1,7 +1,7 @@
 // The bounds text of a table.
-ghost use Rattle.laws.specs.Words.{_≡_, _++_, _≤_, written as Laws·written};
+ghost use Rattle.laws.specs.Words.{_≡_, _++_, _≤_, tabulate, written as Laws·written};
 ghost use Rattle.jobs.specs.Limits.{maxJobs};
-ghost use Rattle.report.specs.{Rows.boundsRows, Texts.boundsHeader, Texts.boundsText, Texts.answerTo, Texts.answerFor, Texts.leftFor};
+ghost use Rattle.report.specs.{Texts.linesText, Texts.boundsHeader, Texts.boundsRow, Texts.boundsText, Answers.answerTo, Answers.answerFor, Answers.leftFor};
 use crate::columns::write_bytes;
 use crate::rows::rows_length;
 use crate::rows::write_rows;
@@ -17,7 +17,7 @@ const HEADER: [u8; 29] = *b"chain,job,ert,cja,itr,slack\r\n";
 // Writes the header and the rows; the length is worked out first, so that a short buffer stays as it was.
 fn write_bounds(set: JobSet, figures: Figures, out: &mut [u8]) -> Written
     requires { ⌜ set .count ≤ maxJobs ⌝ }
-    ensures { λ r. ⌜ (r ≡ answerTo (boundsHeader ++ boundsRows (set .jobs) (figures .ert) (figures .cja) (figures .itr) (figures .slacks) (set .count)) (now (out .entry))) × (now (out .exit) ≡ Laws·written (boundsHeader ++ boundsRows (set .jobs) (figures .ert) (figures .cja) (figures .itr) (figures .slacks) (set .count)) (now (out .entry))) ⌝ }
+    ensures { λ r. let text = boundsHeader ++ linesText (tabulate 0 (set .count) (boundsRow (set .jobs) (figures .ert) (figures .cja) (figures .itr) (figures .slacks))) in ⌜ (r ≡ answerTo text (now (out .entry))) × (now (out .exit) ≡ Laws·written text (now (out .entry))) ⌝ }
 {
     let header = HEADER;
     let length = header.len()

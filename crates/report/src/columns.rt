@@ -1,7 +1,7 @@
 // Numbers with single commas between them, and bytes as they are, at a place of a buffer that has room for them.
-ghost use Rattle.laws.specs.Words.{_≡_, _+_, _*_, _≤_, cond, _∷_, eqb, length, patched};
+ghost use Rattle.laws.specs.Words.{_≡_, _+_, _*_, _≤_, cond, _∷_, map, eqb, pos, length, drop, patched};
 ghost use Rattle.decimal.specs.Digits.{decimal};
-ghost use Rattle.report.specs.Rows.{columnsText};
+ghost use Rattle.report.specs.Texts.{afterCommas};
 use decimal::count::digit_count;
 use decimal::unsigned::write_unsigned;
 
@@ -32,7 +32,7 @@ pub(crate) fn write_column(k: usize, value: u64, out: &mut [u8], at: usize) -> u
 // How many bytes the columns take, no more than 8 of them; a column has a comma and at most 20 digits.
 pub(crate) fn columns_length(values: &[u64]) -> usize
     requires { ⌜ length (now values) ≤ 8 ⌝ }
-    ensures { λ r. ⌜ (r ≡ length (columnsText (now (values .entry)))) × (r ≤ 21 * length (now (values .entry))) ⌝ }
+    ensures { λ r. let text = drop 1 (afterCommas (map pos (now (values .entry)))) in ⌜ (r ≡ length text) × (r ≤ 21 * length (now (values .entry))) ⌝ }
 {
     let mut sum: usize = 0;
     let mut k: usize = 0;
@@ -45,8 +45,8 @@ pub(crate) fn columns_length(values: &[u64]) -> usize
 
 // Writes the columns, and answers the place after them.
 pub(crate) fn write_columns(values: &[u64], out: &mut [u8], at: usize) -> usize
-    requires { ⌜ at + length (columnsText (now values)) ≤ length (now out) ⌝ }
-    ensures { λ r. ⌜ (r ≡ at + length (columnsText (now (values .entry)))) × (now (out .exit) ≡ patched (now (out .entry)) at (columnsText (now (values .entry)))) ⌝ }
+    requires { let text = drop 1 (afterCommas (map pos (now values))) in ⌜ at + length text ≤ length (now out) ⌝ }
+    ensures { λ r. let text = drop 1 (afterCommas (map pos (now (values .entry)))) in ⌜ (r ≡ at + length text) × (now (out .exit) ≡ patched (now (out .entry)) at text) ⌝ }
 {
     let mut next = at;
     let mut k: usize = 0;

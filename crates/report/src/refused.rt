@@ -1,6 +1,6 @@
 // The line that a refusal prints, and how much of a buffer a program prints.
 ghost use Rattle.laws.specs.Words.{_≡_, written, writtenLength};
-ghost use Rattle.report.specs.Refusals.{refusedText, printLength, printLeft};
+ghost use Rattle.report.specs.{Texts.refusedText, Answers.printLength, Answers.printLeft};
 use crate::columns::write_bytes;
 use crate::columns::write_column;
 use crate::written::Written;

@@ -1,7 +1,7 @@
 // The rows of the bounds text.
-ghost use Rattle.laws.specs.Words.{_≡_, _+_, _*_, _≤_, length, patched};
+ghost use Rattle.laws.specs.Words.{_≡_, _+_, _*_, _≤_, length, tabulate, patched};
 ghost use Rattle.jobs.specs.Limits.{maxJobs};
-ghost use Rattle.report.specs.Rows.{boundsRows};
+ghost use Rattle.report.specs.Texts.{linesText, boundsRow};
 use crate::row::row_length;
 use crate::row::write_row;
 use jobs::set::JobSet;
@@ -15,7 +15,7 @@ pub(crate) fn rows_length<'a>(
     slacks: &'a [i64; JobSet::MAX_JOBS],
 ) -> usize
     requires { ⌜ set .count ≤ maxJobs ⌝ }
-    ensures { λ r. ⌜ (r ≡ length (boundsRows (set .jobs) (now (ert .entry)) (now (cja .entry)) (now (itr .entry)) (now (slacks .entry)) (set .count))) × (r ≤ 129 * maxJobs) ⌝ }
+    ensures { λ r. let rows = tabulate 0 (set .count) (boundsRow (set .jobs) (now (ert .entry)) (now (cja .entry)) (now (itr .entry)) (now (slacks .entry))) in ⌜ (r ≡ length (linesText rows)) × (r ≤ 129 * maxJobs) ⌝ }
 {
     let count = set.count;
     let mut sum: usize = 0;
@@ -38,8 +38,8 @@ pub(crate) fn write_rows<'a>(
     at: usize,
 ) -> usize
     requires { ⌜ set .count ≤ maxJobs ⌝ }
-    requires { ⌜ at + length (boundsRows (set .jobs) (now ert) (now cja) (now itr) (now slacks) (set .count)) ≤ length (now out) ⌝ }
-    ensures { λ r. ⌜ (r ≡ at + length (boundsRows (set .jobs) (now (ert .entry)) (now (cja .entry)) (now (itr .entry)) (now (slacks .entry)) (set .count))) × (now (out .exit) ≡ patched (now (out .entry)) at (boundsRows (set .jobs) (now (ert .entry)) (now (cja .entry)) (now (itr .entry)) (now (slacks .entry)) (set .count))) ⌝ }
+    requires { let rows = tabulate 0 (set .count) (boundsRow (set .jobs) (now ert) (now cja) (now itr) (now slacks)) in ⌜ at + length (linesText rows) ≤ length (now out) ⌝ }
+    ensures { λ r. let rows = tabulate 0 (set .count) (boundsRow (set .jobs) (now (ert .entry)) (now (cja .entry)) (now (itr .entry)) (now (slacks .entry))) in ⌜ (r ≡ at + length (linesText rows)) × (now (out .exit) ≡ patched (now (out .entry)) at (linesText rows)) ⌝ }
 {
     let count = set.count;
     let mut next = at;

@@ -1,8 +1,7 @@
 // The trace text of a table.
-ghost use Rattle.laws.specs.Words.{_≡_, _++_, _*_, _≤_, length, padded, written as Laws·written};
+ghost use Rattle.laws.specs.Words.{_≡_, _++_, _*_, _≤_, length, tabulate, padded, written as Laws·written};
 ghost use Rattle.jobs.specs.{Limits.maxJobs, Jobs.jobsOf, Checks.checkOf};
-ghost use Rattle.report.specs.Rows.{entriesText};
-ghost use Rattle.report.specs.Texts.{mostTimes, traceHeader, traceText, answerTo, answerFor, leftFor};
+ghost use Rattle.report.specs.{Texts.linesText, Texts.traceHeader, Texts.entryRow, Texts.mostTimes, Texts.traceText, Answers.answerTo, Answers.answerFor, Answers.leftFor};
 use crate::columns::write_bytes;
 use crate::entries::entries_length;
 use crate::entries::write_entries;
@@ -36,7 +35,7 @@ fn most_times(set: JobSet) -> [u64; JobSet::MAX_JOBS]
 // Writes the header and the rows; the length is worked out first, so that a short buffer stays as it was.
 fn write_trace(numbers: &[u64], count: usize, out: &mut [u8]) -> Written
     requires { ⌜ (4 * count ≤ length (now numbers)) × (count ≤ 2 * maxJobs) ⌝ }
-    ensures { λ r. ⌜ (r ≡ answerTo (traceHeader ++ entriesText (now (numbers .entry)) count) (now (out .entry))) × (now (out .exit) ≡ Laws·written (traceHeader ++ entriesText (now (numbers .entry)) count) (now (out .entry))) ⌝ }
+    ensures { λ r. let text = traceHeader ++ linesText (tabulate 0 count (entryRow (now (numbers .entry)))) in ⌜ (r ≡ answerTo text (now (out .entry))) × (now (out .exit) ≡ Laws·written text (now (out .entry))) ⌝ }
 {
     let header = HEADER;
     let length = header.len() + entries_length(numbers, count);

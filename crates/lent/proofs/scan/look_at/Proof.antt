@@ -2,7 +2,7 @@
 use mathlib.Core.Path.{refl}
 use borrow.Author.Needs.{needs}
 use Rattle.machine.specs.States.{complete}
-use Rattle.lent.specs.Scans.{scanOf}
+use Rattle.machine.proofs.Scanned.{scanned}
 use Rattle.lent.proofs.scan.look_at.Statement.{statement}
 use Rattle.lent.proofs.scan.look_at.Tie as tie
 
@@ -25,7 +25,7 @@ since-release-requires : tie.Need-since-release-requires
 since-release-requires c κs = search needs
 
 returns : tie.Need-returns
-unfolding scanOf complete
+unfolding scanned complete
 returns c js e j = rw (← c .before .before .before .before .number-at .ensures, ← c .before .before .before .number-at2 .ensures, ← c .before .before .best-after .ensures js e j, ← c .before .is-released .ensures js _ _ e j refl, ← c .since-release .ensures js _ _ e j refl, ← j)
 
 pub look-at-spec : {M : Type 1} → statement M

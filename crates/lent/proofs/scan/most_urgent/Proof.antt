@@ -50,11 +50,13 @@ use denote.Triple.Table.{entered, cited}
 use denote.Triple.Walked.{says, Stays, stay-none-slice, stay-none, walkOf, AllGo, goes-none, goes-none-slice, Walks, ends-at, walked, walk-meets}
 use denote.Exit.{yes}
 use Rattle.jobs.specs.Jobs.{noJob, jobAt}
-use Rattle.lent.specs.Scans.{scanOf}
 use Rattle.jobs.specs.declared.job.Job.{Job}
 use Rattle.lent.specs.declared.scan.Scan.{Scan}
 use Rattle.machine.specs.declared.state.State.{State}
+use Rattle.machine.specs.declared.pick.Best.{Best}
 use Rattle.machine.specs.Pick.{bestUpTo}
+use Rattle.machine.proofs.Scanned.{scanned}
+use Rattle.lent.proofs.Scanning.{figuresOf, scanFrom, scanOf, best-so-far}
 use Rattle.lent.proofs.scan.look_at.Symbol.{name as #look-at}
 use Rattle.lent.proofs.scan.most_urgent.Key.{name as #most-urgent}
 use denote.Struct.Laws as LL
@@ -91,11 +93,16 @@ state-vals = LL.vals S.the-type S′.the-laws
 abbrev scan-val : Scan → Val
 scan-val = LL.val B.the-type B′.the-laws
 
--- what lies in a cell tells the relation of a `Scan`
+abbrev best-val : Best → Val
+best-val = LL.val P.the-type P′.the-laws
+
+-- what lies in a cell tells the relation of a `Best` and of a `Scan`
+best-is : (r : Best) → WT (best-val r) → Is P.the-row r (best-val r ∷ [])
+best-is r wt = LL.owes P.the-type P′.the-laws r (refl, ((refl, wt .1 .0 .fits), ((refl, wt .1 .1 .0 .fits), ((refl, wt .1 .1 .1 .0 .fits), tt))))
+
 scan-is : (r : Scan) → WT (scan-val r) → Is B.the-row r (scan-val r ∷ [])
 scan-is r wt =
-    let best = LL.owes P.the-type P′.the-laws (r .best) (refl, ((refl, wt .0 .1 .0 .fits), ((refl, wt .0 .1 .1 .0 .fits), ((refl, wt .0 .1 .1 .1 .0 .fits), tt)))) in
-    LL.owes B.the-type B′.the-laws r (best, ((refl, wt .1 .0 .fits), ((refl, wt .1 .1 .0 .fits), (refl, (refl, ((refl, wt .1 .1 .1 .1 .1 .0 .fits), tt))))))
+    LL.owes B.the-type B′.the-laws r (best-is (r .best) (wt .0), ((refl, wt .1 .0 .fits), ((refl, wt .1 .1 .0 .fits), (refl, (refl, ((refl, wt .1 .1 .1 .1 .1 .0 .fits), tt))))))
 
 -- the contract that the proof cites
 abbrev Look : {M : Type 1} (𝓤 : URA M) (H : Heap 𝓤) (A : Atoms 𝓤) (mem : Memory → SProp 𝓤) (run : Routine → Fun 𝓤) → Contract 𝓤
@@ -145,16 +152,19 @@ module _ {M : Type 1} (𝓤 : URA M) (H : Heap 𝓤) (A : Atoms 𝓤) (W : Given
   upTo i = scanOf (js .now) (ts .now) s i
 
   abbrev Looked : ℕ → Scan → Type 0
-  Looked i r = (l : List Job) → upTo i ≡ scanOf l (ts .now) s i → job i ≡ jobAt l i → r ≡ scanOf l (ts .now) s (suc i)
+  Looked i r = (l : List Job) → figuresOf (upTo i) ≡ scanned l (ts .now) s i → job i ≡ jobAt l i → figuresOf r ≡ scanned l (ts .now) s (suc i)
+
+  abbrev best : Best
+  best = upTo n .best
 
   -- what is had at exit gives the `post`
-  exits : Is B.the-row (upTo n) (scan-val (upTo n) ∷ []) → ent 𝓤 (⋆ 𝓤 H A (‵ (flft κ q) ∷ ‵ (flft κ₁ q₁) ∷ ‵ OwnJ ∷ ‵ OwnT ∷ [])) (Post (scan-val (upTo n)))
+  exits : Is P.the-row best (best-val best ∷ []) → ent 𝓤 (⋆ 𝓤 H A (‵ (flft κ q) ∷ ‵ (flft κ₁ q₁) ∷ ‵ OwnJ ∷ ‵ OwnT ∷ [])) (Post (best-val best))
   exits is =
       qed W (‵ (flft κ q) ∷ ‵ (flft κ₁ q₁) ∷ ‵ OwnJ ∷ ‵ OwnT ∷ []) ∵
-      suffices ! _ (ends-at 𝓤 H A most-urgent.ended stayed (most-urgent.clauses 𝓤 H A at-mem run) W bound (scan-val (upTo n)) (upTo n) (tt, (tt, (tt, tt))) (tt, (tt, (tt, tt)))) $ says ! refl $
+      suffices ! _ (ends-at 𝓤 H A most-urgent.ended stayed (most-urgent.clauses 𝓤 H A at-mem run) W bound (best-val best) best (tt, (tt, (tt, tt))) (tt, (tt, (tt, tt)))) $ says ! (best-so-far (js .now) (ts .now) s n) $
       nothing ! $ move ! (2 ∷ 0 ∷ []) $ join ! $ move ! (1 ∷ 0 ∷ []) $ join ! $ frame ! $
       nothing ! $ owned ! S.the-row (Is S.the-row) (LL.makes S.the-type S′.the-plain 𝓤 H A) s _ s-is $ fjoin ! $ move ! (2 ∷ 0 ∷ []) $ fjoin ! $ move ! (1 ∷ 0 ∷ []) $ fjoin ! $ frame ! $
-      owned ! B.the-row (Is B.the-row) (LL.makes B.the-type B′.the-plain 𝓤 H A) (upTo n) _ is $ done !
+      owned ! P.the-row (Is P.the-row) (LL.makes P.the-type P′.the-plain 𝓤 H A) best _ is $ done !
 
   -- what `look_at`'s triple binds outside
   abbrev args : ℕ → Scan × (Job × (ℕ × (RefT (List ℕ) × (State × Unit {0}))))
@@ -187,13 +197,13 @@ module _ {M : Type 1} (𝓤 : URA M) (H : Heap 𝓤) (A : Atoms 𝓤) (W : Given
     times-ty = sliceTy (tyRef (named 1) imm word)
 
     abbrev E : Env 𝓤 H
-    E = (B′.mir, l₀) ∷ (jobs-ty, l₁) ∷ (times-ty, l₂) ∷ (S′.mir, l₃) ∷ (B′.mir, l₄) ∷ (word, l₅) ∷ (J′.mir, l₆) ∷ (P′.mir, l₇) ∷ (word, l₈) ∷ (tyBool, l₉) ∷ (tyPtr, l₁₀) ∷ (J′.mir, l₁₁) ∷ []
+    E = (P′.mir, l₀) ∷ (jobs-ty, l₁) ∷ (times-ty, l₂) ∷ (S′.mir, l₃) ∷ (B′.mir, l₄) ∷ (word, l₅) ∷ (J′.mir, l₆) ∷ (P′.mir, l₇) ∷ (word, l₈) ∷ (tyBool, l₉) ∷ (tyPtr, l₁₀) ∷ (J′.mir, l₁₁) ∷ []
 
     -- what no turn touches
     abbrev Frame : List (Item 𝓤)
-    Frame = ‵ (fat fullShare jobs-ty l₁ 0 vj) ∷ ‵ (fat fullShare times-ty l₂ 0 vt) ∷ ‵ (fat fullShare S′.mir l₃ 0 (LL.val S.the-type S′.the-laws s)) ∷ ‵ (froom B′.mir l₀ 0)
+    Frame = ‵ (fat fullShare jobs-ty l₁ 0 vj) ∷ ‵ (fat fullShare times-ty l₂ 0 vt) ∷ ‵ (fat fullShare S′.mir l₃ 0 (LL.val S.the-type S′.the-laws s)) ∷ ‵ (froom P′.mir l₀ 0)
         ∷ ‵ (fobor κ q (arr-parts (shares J.the-row) n .part q′ (js .now) b o)) ∷ ‵ OwnJ
-        ∷ ‵ (fdies B′.mir l₀) ∷ ‵ (fdies jobs-ty l₁) ∷ ‵ (fdies times-ty l₂) ∷ ‵ (fdies S′.mir l₃) ∷ ‵ (fdies B′.mir l₄) ∷ ‵ (fdies word l₅) ∷ ‵ (fdies J′.mir l₆) ∷ ‵ (fdies word l₈) ∷ ‵ (fdies tyBool l₉) ∷ ‵ (fdies tyPtr l₁₀) ∷ ‵ (fdies J′.mir l₁₁) ∷ ‵ (froom P′.mir l₇ 0) ∷ ‵ (fdies P′.mir l₇) ∷ []
+        ∷ ‵ (fdies P′.mir l₀) ∷ ‵ (fdies jobs-ty l₁) ∷ ‵ (fdies times-ty l₂) ∷ ‵ (fdies S′.mir l₃) ∷ ‵ (fdies B′.mir l₄) ∷ ‵ (fdies word l₅) ∷ ‵ (fdies J′.mir l₆) ∷ ‵ (fdies word l₈) ∷ ‵ (fdies tyBool l₉) ∷ ‵ (fdies tyPtr l₁₀) ∷ ‵ (fdies J′.mir l₁₁) ∷ ‵ (froom P′.mir l₇ 0) ∷ ‵ (fdies P′.mir l₇) ∷ []
 
     -- the loop's head, where i jobs are passed
     abbrev At : ℕ → List (Item 𝓤)
@@ -247,7 +257,7 @@ module _ {M : Type 1} (𝓤 : URA M) (H : Heap 𝓤) (A : Atoms 𝓤) (W : Given
         -- [the token ⊛ true; OwnT; the row; _4 (3); …]
         land ! (from ! (stop !)) (store ! 3 refl (LL.lawful B.the-type B′.the-laws 𝓤 H A W .typed r _ is .0)) $
         rewrite ! 3 (λ (u : Val). ‵ (fat fullShare B′.mir l₄ 0 u)) (ap only (LL.tells B.the-type B′.the-laws r _ is)) refl $
-        rewrite ! 3 (λ (u : Scan). ‵ (fat fullShare B′.mir l₄ 0 (scan-val u))) (e (js .now) refl refl) refl $
+        rewrite ! 3 (λ (u : Scan). ‵ (fat fullShare B′.mir l₄ 0 (scan-val u))) (ap scanFrom (e (js .now) refl refl)) refl $
         assigns-last ! (bin ! (load ! (from ! (stop !)) (look ! 4 refl)) (lit ! tt) (record { fits = next-fits })) (from ! (stop !)) (store ! 4 refl (tt, record { fits = next-fits })) $
         rewrite ! 4 (λ (j : ℕ). ‵ (fat fullShare word l₅ 0 (vint w64 j))) (add-one (i .0)) refl $
         forget ! 5 refl $ forget ! 6 refl $ forget ! 7 refl $ forget ! 8 refl $ forget ! 9 refl $
@@ -275,14 +285,14 @@ module _ {M : Type 1} (𝓤 : URA M) (H : Heap 𝓤) (A : Atoms 𝓤) (W : Given
         assigns ! (bin ! (load ! (from ! (stop !)) (look ! 4 refl)) (load ! (from ! (stop !)) (look ! 6 refl)) tt) (from ! (stop !)) (init ! 7 refl (tt, tt)) $
         rewrite ! 7 (λ (y : Bool). ‵ (fat fullShare tyBool l₉ 0 (vbool y))) (le-ltb n n (omega arith)) refl $
         leaves-loop ! (load ! (from ! (stop !)) (look ! 7 refl)) $ exec ! (𝓣 .C) (𝓣 .Λ) E body.t-5 (atRet E Post) $
-        assigns ! (of-opd ! (load ! (from ! (stop !)) (look ! 3 refl))) (from ! (stop !)) (init ! 13 refl wt) $
+        assigns ! (of-opd ! (load ! (from ! (fld ! refl (stop !))) (look-in ! 3 (sub ! 0 refl (whole !))))) (from ! (stop !)) (init ! 13 refl (tt, wt .1 .0)) $
         move ! (0 ∷ 14 ∷ []) $ shuts-slice ! tt J.the-row q′ (js .now) b o $
         -- [κ's token; κ₁'s; OwnT; _4 (3) .. _6 (5); _8 (6) .. _11 (9); _1 (10); _2 (11); _3 (12); _0 (13); OwnJ (14); dies of _0 (15) .. _6 (21), _8 (22) .. _11 (25); _7 (26); its dies (27)]
         returns ! (look ! 13 refl) $ forget ! 3 refl $ forget ! 4 refl $ forget ! 6 refl $ forget ! 7 refl $ forget ! 10 refl $ forget ! 11 refl $ forget ! 12 refl $ forget ! 13 refl $
         move ! (13 ∷ 15 ∷ []) $ free1 ! $ move ! (10 ∷ 14 ∷ []) $ free1 ! $ move ! (10 ∷ 13 ∷ []) $ free1 ! $ move ! (10 ∷ 12 ∷ []) $ free1 ! $
         -- [κ's; κ₁'s; OwnT; _4 (3) .. _11 (9); OwnJ (10); dies of _4 (11) .. _11 (17); _7 (18); its dies (19)]
         move ! (3 ∷ 11 ∷ []) $ free1 ! $ move ! (3 ∷ 10 ∷ []) $ free1 ! $ move ! (3 ∷ 9 ∷ []) $ free1 ! $ move ! (12 ∷ 13 ∷ []) $ free1 ! $ move ! (3 ∷ 8 ∷ []) $ free1 ! $ move ! (3 ∷ 7 ∷ []) $ free1 ! $ move ! (3 ∷ 6 ∷ []) $ free1 ! $ move ! (3 ∷ 5 ∷ []) $ free1 ! $ free0 ! $
-        keep ! (0 ∷ 1 ∷ 3 ∷ 2 ∷ []) $ by ! (exits (scan-is (upTo n) (wt .1))))
+        keep ! (0 ∷ 1 ∷ 3 ∷ 2 ∷ []) $ by ! (exits (best-is best (wt .1 .0))))
 
     turn-at : (i : X) → Sq W (Inv i) (runs (𝓣 .C) (𝓣 .Λ) E body.turn-1 (anyQ (afterTurn 𝓤 H (Below 𝓤 H A ≺ Inv i) Left)))
     turn-at i = ⊎-elim (λ e. subst (λ (k : ℕ). Sq W (At k) (runs (𝓣 .C) (𝓣 .Λ) E body.turn-1 (anyQ (afterTurn 𝓤 H (Below 𝓤 H A ≺ Inv i) Left)))) (sym e) (ends (Below 𝓤 H A ≺ Inv i))) (λ lt. more i lt) (eq-or-lt-of-le (i .1))
@@ -293,7 +303,7 @@ module _ {M : Type 1} (𝓤 : URA M) (H : Heap 𝓤) (A : Atoms 𝓤) (W : Given
   module _ (𝓣 : Tables 𝓤 H) (known : Triple 𝓤 (𝓣 .C #look-at) (Look 𝓤 H A at-mem run)) where
     walk : Is (ShrSlice (named 0) κ J.the-row) js (vj ∷ []) → Is (ShrSlice (named 1) κ₁ u64) ts (vt ∷ [])
         → ent 𝓤 (onEntry 𝓤 H A most-urgent.signature (κ, (κ₁, tt)) (q, (q₁, tt)) x at) (WpFn 𝓤 H (𝓣 .C) (𝓣 .Λ) code.function (vj ∷ vt ∷ LL.val S.the-type S′.the-laws s ∷ []) Post)
-    unfolding scanOf bestUpTo
+    unfolding scanned bestUpTo
     walk pj pt =
         qed W ((‵ (flft κ q) ⊛ ‵ (flft κ₁ q₁) ⊛ ‵ ftrue) ∷ ‵ (owns (ShrSlice (named 0) κ J.the-row ∷ ShrSlice (named 1) κ₁ u64 ∷ S.the-row ∷ []) x at) ∷ []) ∵
         enter ! (𝓣 .C) (𝓣 .Λ) code.function (vj ∷ vt ∷ LL.val S.the-type S′.the-laws s ∷ []) _ $

@@ -1,11 +1,11 @@
--- `columns_length` answers the length of `columnsText`. The loop's invariant: the sum is that of the first k columns. Assumes nothing.
+-- `columns_length` answers the length of the columns. The loop's invariant: the sum is that of the first k columns. Assumes nothing.
 use Prim.Native.Nat.{_-_, _*_, _≤_}
 use mathlib.Core.Path.{_≡_, refl, ap, _∙_}
 use native.Mathlib.Omega.{arith}
 use lib.ListN.{length, take, getD, length-append}
 use borrow.Author.Needs.{needs}
-use Rattle.report.specs.Rows.{afterCommas, columnsText}
-use Rattle.report.proofs.ColumnTexts.{columnText, column-within, columns-next, columns-all}
+use Rattle.report.specs.Texts.{afterCommas}
+use Rattle.report.proofs.ColumnTexts.{columnsText, columnText, column-within, columns-next, columns-all}
 use Rattle.report.proofs.columns.columns_length.Statement.{statement}
 use Rattle.report.proofs.columns.columns_length.Tie as tie
 

@@ -1,11 +1,12 @@
--- `entries_length` answers the length of `entriesText`. The loop's invariant: the sum is that of the first n rows. Assumes nothing.
+-- `entries_length` answers the length of the entries' lines. The loop's invariant: the sum is that of the first n rows. Assumes nothing.
 use Prim.Native.Nat.{ℕ, _*_, _-_, _≤_}
 use mathlib.Core.Path.{_≡_, refl, ap, _∙_}
 use native.Mathlib.Omega.{arith}
 use lib.ListN.{length, length-append}
 use borrow.Author.Needs.{needs}
-use Rattle.report.specs.Rows.{entryText, entriesText}
-use Rattle.report.proofs.EntryTexts.{entries-made}
+use Rattle.laws.specs.Words.{tabulate}
+use Rattle.report.specs.Texts.{linesText}
+use Rattle.report.proofs.EntryTexts.{entryText, entriesText, entries-made}
 use Rattle.report.proofs.entries.entries_length.Statement.{statement}
 use Rattle.report.proofs.entries.entries_length.Tie as tie
 
@@ -16,7 +17,7 @@ abbrev μ-loop : tie.MeasureT-loop
 μ-loop numbers count sum₀ n₀ sum n = count - n
 
 loop-holds : tie.Need-loop-holds Inv-loop μ-loop
-loop-holds c = (omega arith, omega arith, unfold entriesText in refl)
+loop-holds c = (omega arith, omega arith, unfold linesText tabulate in refl)
 
 entry-length-requires : tie.Need-entry-length-requires Inv-loop μ-loop
 entry-length-requires c κs = omega (arith, c .before .before .before .pre .0)

@@ -1,11 +1,11 @@
--- `entry_length` answers the length of `entryText`. Assumes nothing.
+-- `entry_length` answers the length of the entry's line. Assumes nothing.
 use mathlib.Core.List.{List}
 use mathlib.Core.Path.{ap}
 use Prim.Native.Nat.{ℕ}
 use native.Mathlib.Omega.{arith}
 use lib.ListN.{length}
 use borrow.Author.Needs.{needs}
-use Rattle.report.specs.Rows.{columnsText}
+use Rattle.report.proofs.ColumnTexts.{columnsText}
 use Rattle.report.proofs.EntryTexts.{entry-length}
 use Rattle.report.proofs.entries.entry_length.Statement.{statement}
 use Rattle.report.proofs.entries.entry_length.Tie as tie
@@ -25,7 +25,7 @@ add-result c = search needs
 returns : tie.Need-returns
 returns c =
     let values = c .before .before .entry-values .ensures in (
-      omega (arith, c .columns-length .ensures .0, ap (λ (l : List ℕ). length (columnsText l)) values, entry-length (c .before .before .before .before .args .numbers .now) (c .before .before .before .before .args .n)),
+      omega (arith, c .columns-length .ensures .0, ap (λ (l : List ℕ). length (columnsText l)) values, entry-length (c .before .before .before .before .args .numbers .now) (c .before .before .before .before .args .n) (c .before .before .before .before .pre)),
       omega (arith, c .columns-length .ensures .1, ap length values),
     )
 

@@ -6,8 +6,9 @@ use native.Mathlib.Omega.{arith}
 use lib.ListN.{length}
 use borrow.Author.Needs.{needs}
 use Rattle.laws.proofs.Buffers.{Wrote, wrote-none, wrote-more, wrote-room, wrote-length}
-use Rattle.report.specs.Rows.{columnsText, lineEnd, entryText}
-use Rattle.report.proofs.EntryTexts.{entryValues, entry-length, entry-pieces}
+use Rattle.report.proofs.Lines.{lineEnd}
+use Rattle.report.proofs.ColumnTexts.{columnsText}
+use Rattle.report.proofs.EntryTexts.{entryValues, entryText, entry-length, entry-pieces}
 use Rattle.report.proofs.entries.write_entry.Statement.{statement}
 use Rattle.report.proofs.entries.write_entry.Tie as tie
 
@@ -18,7 +19,7 @@ columns c =
     (rw (c .before .before .before .entry-values .ensures) at (c .write-columns .ensures))
 
 row : (c : tie.After-write-bytes) → Wrote (c .before .before .before .before .before .before .before .before .before .before .before .args .out .now) (c .before .before .before .before .before .before .before .before .before .before .before .args .place) (entryText (c .before .before .before .before .before .before .before .before .before .before .before .args .numbers .now) (c .before .before .before .before .before .before .before .before .before .before .before .args .n)) (c .write-bytes .last .1 .0) (c .write-bytes .result)
-row c = rw (← entry-pieces (c .before .before .before .before .before .before .before .before .before .before .before .args .numbers .now) (c .before .before .before .before .before .before .before .before .before .before .before .args .n)) (wrote-more lineEnd (columns (c .before .before .before .before .before)) (c .write-bytes .ensures))
+row c = rw (← entry-pieces (c .before .before .before .before .before .before .before .before .before .before .before .args .numbers .now) (c .before .before .before .before .before .before .before .before .before .before .before .args .n) (c .before .before .before .before .before .before .before .before .before .before .before .pre .0)) (wrote-more lineEnd (columns (c .before .before .before .before .before)) (c .write-bytes .ensures))
 
 entry-values-requires : tie.Need-entry-values-requires
 entry-values-requires c κs = search needs
@@ -28,13 +29,13 @@ slice-aggregate-write-columns c = search needs
 
 write-columns-requires : tie.Need-write-columns-requires
 write-columns-requires c κs =
-    omega (arith, c .before .before .before .before .before .pre .1, ap (λ (l : List ℕ). length (columnsText l)) (c .before .before .entry-values .ensures), entry-length (c .before .before .before .before .before .args .numbers .now) (c .before .before .before .before .before .args .n))
+    omega (arith, c .before .before .before .before .before .pre .1, ap (λ (l : List ℕ). length (columnsText l)) (c .before .before .entry-values .ensures), entry-length (c .before .before .before .before .before .args .numbers .now) (c .before .before .before .before .before .args .n) (c .before .before .before .before .before .pre .0))
 
 slice-aggregate-write-bytes : tie.Need-slice-aggregate-write-bytes
 slice-aggregate-write-bytes c = search needs
 
 write-bytes-requires : tie.Need-write-bytes-requires
-write-bytes-requires c κs = wrote-room lineEnd (columns (c .before .before .before .before)) (omega (arith, c .before .before .before .before .before .before .before .before .before .before .pre .1, entry-length (c .before .before .before .before .before .before .before .before .before .before .args .numbers .now) (c .before .before .before .before .before .before .before .before .before .before .args .n)))
+write-bytes-requires c κs = wrote-room lineEnd (columns (c .before .before .before .before)) (omega (arith, c .before .before .before .before .before .before .before .before .before .before .pre .1, entry-length (c .before .before .before .before .before .before .before .before .before .before .args .numbers .now) (c .before .before .before .before .before .before .before .before .before .before .args .n) (c .before .before .before .before .before .before .before .before .before .before .pre .0)))
 
 same-length : tie.Need-same-length
 same-length c = let h = wrote-length (row (c .before .before)) (c .before .before .before .before .before .before .before .before .before .before .before .before .before .pre .1) in search (needs, h)

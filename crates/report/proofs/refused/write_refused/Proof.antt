@@ -9,8 +9,8 @@ use Rattle.laws.specs.Words.{ascii}
 use Rattle.laws.proofs.Buffers.{Wrote, wrote-none, wrote-more, wrote-room, wrote-length}
 use Rattle.decimal.specs.Digits.{digitCount}
 use Rattle.decimal.proofs.Writing.{writes-short}
-use Rattle.report.specs.Rows.{lineEnd}
-use Rattle.report.specs.Refusals.{refusedText}
+use Rattle.report.specs.Texts.{refusedText}
+use Rattle.report.proofs.Lines.{lineEnd}
 use Rattle.report.proofs.ColumnTexts.{columnText, first-length, word-digits}
 use Rattle.report.proofs.Wholes.{wrote-whole}
 use Rattle.report.proofs.RefusedText.{refused-length, refused-pieces}

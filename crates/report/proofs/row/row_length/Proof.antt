@@ -1,4 +1,4 @@
--- `row_length` answers the length of `boundsRow`. Assumes nothing.
+-- `row_length` answers the length of the row's line. Assumes nothing.
 use Prim.Native.Nat.{_≤_}
 use mathlib.Core.Path.{_≡_}
 use native.Mathlib.Omega.{arith}

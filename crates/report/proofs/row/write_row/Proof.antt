@@ -5,8 +5,9 @@ use lib.ListN.{length-append}
 use mir.Facts.{toZ-ofZ}
 use borrow.Author.Needs.{needs}
 use Rattle.laws.proofs.Buffers.{Wrote, wrote-none, wrote-more, wrote-room, wrote-length}
-use Rattle.report.specs.Rows.{columnsText, lineEnd, slackText, boundsRow}
-use Rattle.report.proofs.RowTexts.{slack-length, rowValues, row-pieces, row-length}
+use Rattle.report.proofs.Lines.{lineEnd, lineText}
+use Rattle.report.proofs.ColumnTexts.{columnsText}
+use Rattle.report.proofs.RowTexts.{slackText, slack-length, rowValues, rowOf, row-pieces, row-length}
 use Rattle.report.proofs.row.write_row.Statement.{statement}
 use Rattle.report.proofs.row.write_row.Tie as tie
 
@@ -17,7 +18,7 @@ columns c = wrote-more (columnsText (rowValues (c .before .before .before .befor
 slack : (c : tie.After-write-slack) → Wrote (c .before .before .before .before .before .before .before .before .args .out .now) (c .before .before .before .before .before .before .before .before .args .at) (([] ++ columnsText (rowValues (c .before .before .before .before .before .before .before .before .args .job) (c .before .before .before .before .before .before .before .before .args .ert) (c .before .before .before .before .before .before .before .before .args .cja) (c .before .before .before .before .before .before .before .before .args .itr))) ++ slackText (c .before .before .before .before .before .before .before .before .args .slack)) (c .write-slack .last .1 .0) (c .write-slack .result)
 slack c = wrote-more (slackText (c .before .before .before .before .before .before .before .before .args .slack)) (columns (c .before .before .before .before)) (rw (toZ-ofZ (c .before .before .before .before .before .before .before .before .fits .slack)) at (c .write-slack .ensures))
 
-row : (c : tie.After-write-bytes) → Wrote (c .before .before .before .before .before .before .before .before .before .before .before .before .before .args .out .now) (c .before .before .before .before .before .before .before .before .before .before .before .before .before .args .at) (boundsRow (c .before .before .before .before .before .before .before .before .before .before .before .before .before .args .job) (c .before .before .before .before .before .before .before .before .before .before .before .before .before .args .ert) (c .before .before .before .before .before .before .before .before .before .before .before .before .before .args .cja) (c .before .before .before .before .before .before .before .before .before .before .before .before .before .args .itr) (c .before .before .before .before .before .before .before .before .before .before .before .before .before .args .slack)) (c .write-bytes .last .1 .0) (c .write-bytes .result)
+row : (c : tie.After-write-bytes) → Wrote (c .before .before .before .before .before .before .before .before .before .before .before .before .before .args .out .now) (c .before .before .before .before .before .before .before .before .before .before .before .before .before .args .at) (lineText (rowOf (c .before .before .before .before .before .before .before .before .before .before .before .before .before .args .job) (c .before .before .before .before .before .before .before .before .before .before .before .before .before .args .ert) (c .before .before .before .before .before .before .before .before .before .before .before .before .before .args .cja) (c .before .before .before .before .before .before .before .before .before .before .before .before .before .args .itr) (c .before .before .before .before .before .before .before .before .before .before .before .before .before .args .slack))) (c .write-bytes .last .1 .0) (c .write-bytes .result)
 row c = rw (← row-pieces (c .before .before .before .before .before .before .before .before .before .before .before .before .before .args .job) (c .before .before .before .before .before .before .before .before .before .before .before .before .before .args .ert) (c .before .before .before .before .before .before .before .before .before .before .before .before .before .args .cja) (c .before .before .before .before .before .before .before .before .before .before .before .before .before .args .itr) (c .before .before .before .before .before .before .before .before .before .before .before .before .before .args .slack)) (wrote-more lineEnd (slack (c .before .before .before .before .before)) (c .write-bytes .ensures))
 
 slice-aggregate-write-columns : tie.Need-slice-aggregate-write-columns

@@ -7,9 +7,8 @@ use borrow.Author.Needs.{needs}
 use borrow.Rule.Slice.PartMut.{putMid}
 use Rattle.laws.proofs.Buffers.{Wrote, wrote-length}
 use Rattle.decimal.specs.Digits.{signed}
-use Rattle.report.specs.Rows.{slackText}
 use Rattle.report.proofs.ColumnWrites.{comma-written}
-use Rattle.report.proofs.RowTexts.{slack-length}
+use Rattle.report.proofs.RowTexts.{slackText, slack-is, slack-length}
 use Rattle.report.proofs.row.write_slack.Statement.{statement}
 use Rattle.report.proofs.row.write_slack.Tie as tie
 
@@ -17,8 +16,7 @@ use Rattle.report.proofs.row.write_slack.Tie as tie
 wrote : (c : tie.After-write-signed)
     → Wrote (c .before .before .before .args .out .now) (c .before .before .before .args .at) (slackText (c .before .before .before .args .slack))
     (putMid (c .before .before .before .args .at + 1) (length (set (c .before .before .before .args .out .now) (c .before .before .before .args .at) 44) - (c .before .before .before .args .at + 1)) (set (c .before .before .before .args .out .now) (c .before .before .before .args .at) 44) (c .write-signed .last .1 .0)) (c .before .before .before .args .at + 1 + c .write-signed .result)
-unfolding slackText
-wrote c = comma-written (signed (c .before .before .before .args .slack)) (c .before .before .before .args .out .now) (c .before .before .before .args .at) (c .before .before .before .pre) (rw (toZ-ofZ (c .before .before .before .fits .slack)) at (c .write-signed .ensures))
+wrote c = rw (slack-is (c .before .before .before .args .slack)) (comma-written (signed (c .before .before .before .args .slack)) (c .before .before .before .args .out .now) (c .before .before .before .args .at) (rw (slack-is (c .before .before .before .args .slack)) at (c .before .before .before .pre)) (rw (toZ-ofZ (c .before .before .before .fits .slack)) at (c .write-signed .ensures)))
 
 slice-write-out : tie.Need-slice-write-out
 slice-write-out c = omega (arith, c .before .pre, slack-length (c .before .args .slack))

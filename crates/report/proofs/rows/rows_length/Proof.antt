@@ -1,4 +1,4 @@
--- `rows_length` answers the length of `boundsRows`. The loop's invariant: the sum is that of the first n rows. Assumes nothing.
+-- `rows_length` answers the length of the rows. The loop's invariant: the sum is that of the first n rows. Assumes nothing.
 use Prim.Native.Nat.{ℕ, _*_, _-_, _≤_}
 use mathlib.Core.Path.{_≡_, refl, ap, _∙_}
 use native.Mathlib.Omega.{arith}
@@ -7,8 +7,9 @@ use lib.ListN.{length, getD, length-append}
 use mir.Syntax.{w64}
 use mir.Facts.{toZ-ofZ}
 use borrow.Author.Needs.{needs}
-use Rattle.report.specs.Rows.{boundsRows}
-use Rattle.report.proofs.RowsTexts.{rowAt, rows-made}
+use Rattle.laws.specs.Words.{tabulate}
+use Rattle.report.specs.Texts.{linesText}
+use Rattle.report.proofs.RowsTexts.{rowAt, boundsRows, rows-made}
 use Rattle.report.proofs.rows.rows_length.Statement.{statement}
 use Rattle.report.proofs.rows.rows_length.Tie as tie
 
@@ -25,7 +26,7 @@ row-is c =
     rw (toZ-ofZ {w = w64} {z = slack} (record { sfits = c .before .row-length-arg5 .given })) at (c .row-length .ensures .0)
 
 loop-holds : tie.Need-loop-holds Inv-loop μ-loop
-loop-holds c = (omega arith, omega arith, unfold boundsRows in refl)
+loop-holds c = (omega arith, omega arith, unfold linesText tabulate in refl)
 
 mul-row-length : tie.Need-mul-row-length Inv-loop μ-loop
 mul-row-length c = search needs
