@@ -10,6 +10,10 @@ pub use lib.Dec.{leb, ltb, eqb}
 pub use lib.ListN.{length, getD, set, take, drop, replicate}
 pub use lib.IntN.{ℤ, pos, negsuc, natAbs, negℤ, _-ℤ_}
 
+-- The number at a place, 0 beyond the list.
+abbrev pub numberAt : List ℕ → ℕ → ℕ
+numberAt xs i = getD xs i 0
+
 -- f 0 + f 1 + … + f (n - 1).
 unfoldable pub sumBelow : ℕ → (ℕ → ℕ) → ℕ
 sumBelow zero f = 0

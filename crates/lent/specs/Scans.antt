@@ -1,8 +1,8 @@
 -- The scan over lent job records. Document 01, "The scan that picks the next job goes over the lent job records and changes none". Assumes nothing.
-use Rattle.laws.specs.Words.{ℕ, zero, suc, _-_, false, List, leb}
+use Rattle.laws.specs.Words.{ℕ, zero, suc, _-_, false, List, leb, numberAt}
 use Rattle.jobs.specs.declared.job.Job.{Job}
-use Rattle.theory.specs.Table.{tableOf}
-use Rattle.machine.specs.{declared.state.State.State, States.complete, Pick.bestUpTo}
+use Rattle.theory.specs.{Table.tableOf, Runs.complete}
+use Rattle.machine.specs.{declared.state.State.State, Pick.bestUpTo}
 use Rattle.lent.specs.declared.scan.Scan.{Scan}
 
 -- What a scan of the first n records knows: the best of them, as in a step, and figures of the last record, with 0 ticks since a release still to come.
@@ -14,7 +14,7 @@ scanOf js times s (suc u) =
       best = bestUpTo t times s (suc u);
       last = t .chain u;
       least = t .least u;
-      done = complete times (s .work) u;
+      done = complete times (numberAt (s .work)) u;
       released = leb (t .earliest u) (s .time);
       since = s .time - t .earliest u;
     }

@@ -6,7 +6,7 @@ use mathlib.Core.List.{List}
 use native.Mathlib.Omega.{arith}
 use native.Mathlib.Nat.{zero-add}
 use lib.ListN.{length, getD}
-use Rattle.laws.specs.Words.{tabulate}
+use Rattle.laws.specs.Words.{tabulate, numberAt}
 use Rattle.laws.proofs.Tests.{by-test, by-order}
 use Rattle.laws.proofs.Tabulate.{getD-tabulate}
 use Rattle.jobs.specs.declared.job.Job.{Job}
@@ -15,23 +15,22 @@ use Rattle.jobs.specs.Limits.{maxJobs}
 use Rattle.theory.specs.Table.{Table, tableOf}
 use Rattle.theory.specs.Bounds.{boundAt}
 use Rattle.theory.specs.Rounds.{itr}
-use Rattle.theory.specs.Runs.{Entry, idle, runs, names, Complete}
+use Rattle.theory.specs.Runs.{Entry, idle, runs, names, work, complete}
 use Rattle.theory.proofs.AcceptedSets.{accepted-well}
 use Rattle.theory.proofs.Releases.{earliest-latest}
+use Rattle.theory.proofs.Legal.{complete-eq, complete-ne, releases-to, run-by, run-from}
 use Rattle.theory.proofs.Work.{named, legal-at, complete-stays}
 use Rattle.theory.proofs.Claims.{demand-3}
 use Rattle.machine.specs.declared.state.State.{State}
 use Rattle.machine.specs.declared.step.Ticked.{Ticked}
 use Rattle.machine.specs.declared.step.Ticked.the-variants.{Finished}
-use Rattle.machine.specs.States.{lastTime, complete, allComplete}
-use Rattle.machine.specs.Times.{machineCheck}
+use Rattle.machine.specs.States.{lastTime, allComplete, machineCheck}
 use Rattle.machine.specs.Pick.{pick}
 use Rattle.machine.specs.Steps.{ranAs, tickOf}
 use Rattle.machine.specs.Runs.{entry, completion, finish, completions}
 use Rattle.machine.specs.Claims.{EveryMachine, AllDone, Ends, FinishedWhen, Demanded, KeepsBounds, GivesBack, WithinTwice}
 use Rattle.laws.proofs.Every.{every-at, first-failing}
-use Rattle.machine.proofs.Readiness.{complete-eq, complete-ne}
-use Rattle.machine.proofs.RunningTimes.{set-passed, set-accepted, times-in-range}
+use Rattle.machine.proofs.RunningTimes.{set-passed, set-accepted, times-fit}
 use Rattle.machine.proofs.Course.{all-sum, going-ends}
 use Rattle.machine.proofs.Running.{lastRelease, few-jobs, released-by, goes, work-limit}
 use Rattle.machine.proofs.Spans.{spans-within-twice}
@@ -39,15 +38,15 @@ use Rattle.machine.proofs.Legality.{run-length, run-entry, entries-lega
 use Rattle.machine.proofs.Reading.{spans-give-back}
 
 all-done : (js : List Job) (times : List ℕ) (s : State) → allComplete times (s .work) (length js) ≡ true → AllDone js times s
-all-done js times s h = λ u l. complete-eq times (s .work) u (every-at (complete times (s .work)) (length js) u l h)
+all-done js times s h = λ u l. complete-eq times (numberAt (s .work)) u (every-at (complete times (numberAt (s .work))) (length js) u l h)
 
 done-all : (js : List Job) (times : List ℕ) (s : State) → AllDone js times s → allComplete times (s .work) (length js) ≡ true
 done-all js times s d =
     by-test (allComplete times (s .work) (length js))
     (λ h. h)
     (λ h.
-    let f = first-failing (complete times (s .work)) (length js) h in
-    absurd (complete-ne times (s .work) (f .place) (f .fails) (d (f .place) (f .below))))
+    let f = first-failing (complete times (numberAt (s .work))) (length js) h in
+    absurd (complete-ne times (numberAt (s .work)) (f .place) (f .fails) (d (f .place) (f .below))))
 
 abbrev finishWork : List Job → List ℕ → List ℕ
 finishWork js times = finish (tableOf js) times .work
@@ -81,11 +80,10 @@ finished-when js times passed =
 
 pub machine-legal : EveryMachine Demanded
 machine-legal js times passed n =
-    record {
-      releases = record { early = λ u l. omega arith; late = λ u l. omega (arith, earliest-latest js u) };
-      inRange = times-in-range js times passed;
-      legal = entries-legal (tableOf js) times lastRelease (few-jobs js times passed) (released-by js times passed) n;
-    }
+    run-by (tableOf js) (tableOf js .earliest) times (tabulate 0 n (entry (tableOf js) times))
+    (releases-to (tableOf js) (tableOf js .earliest) (record { early = λ u l. omega arith; late = λ u l. omega (arith, earliest-latest js u) }))
+    (times-fit js times passed)
+    (entries-legal (tableOf js) times lastRelease (few-jobs js times passed) (released-by js times passed) n)
 
 module _ (js : List Job) (times : List ℕ) (passed : machineCheck js times ≡ Passed) (u : ℕ) (l : u < length js) where
   abbrev t : Table
@@ -101,9 +99,10 @@ module _ (js : List Job) (times : List ℕ) (passed : machineCheck js times ≡ 
       let few = few-jobs js times passed in
       let rel = released-by js times passed in
       let at = run-entry t times lastRelease few rel (suc m) m (omega arith) in
-      let done : Complete times (tabulate 0 (suc m) (entry t times)) u (boundAt (itr t .bounds) u)
+      let done : complete times (work (tabulate 0 (suc m) (entry t times)) (boundAt (itr t .bounds) u)) u ≡ true
       = demand-3 js (set-passed js times passed) .by-itr u l (t .earliest) times (tabulate 0 (suc m) (entry t times)) is (omega (arith, run-length t times lastRelease few rel (suc m))) in
-      absurd (legal-at well is m u (at ∙ e) .1 .unfinished (complete-stays well is u (boundAt (itr t .bounds) u) m late done)))
+      let before = complete-eq times (work (tabulate 0 (suc m) (entry t times)) (boundAt (itr t .bounds) u)) u done in
+      absurd (legal-at well (run-from is) m u (at ∙ e) .1 .unfinished (complete-stays well (run-from is) u (boundAt (itr t .bounds) u) m late before)))
       (λ early. early)
 
   completion-bound : (n : ℕ) → completion t times u n ≤ boundAt (itr t .bounds) u

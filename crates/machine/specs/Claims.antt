@@ -1,9 +1,9 @@
 -- What is proved of the machine for accepted sets and running times in range, in proofs/Claims under the name in each comment. Assumes nothing.
-use Rattle.laws.specs.Words.{ℕ, _*_, _≤_, _<_, _≡_, cond, _&&_, List, [], _∷_, leb, ltb, length, getD, tabulate}
+use Rattle.laws.specs.Words.{ℕ, _*_, _≤_, _<_, _≡_, true, cond, _&&_, List, [], _∷_, leb, ltb, length, getD, tabulate}
 use Rattle.jobs.specs.declared.{job.Job.Job, refusal.Check.Check}
-use Rattle.theory.specs.{Table.tableOf, Bounds.boundAt, Rounds.itr, Runs.Entry, Runs.idle, Runs.runs, Runs.Run}
+use Rattle.theory.specs.{Table.tableOf, Bounds.boundAt, Rounds.itr, Runs.Entry, Runs.idle, Runs.runs, Runs.isRun}
 use Rattle.machine.specs.declared.{state.State.State, step.Ticked.Ticked, trace.Span.Span}
-use Rattle.machine.specs.{States.lastTime, Times.machineCheck, Steps.tickOf, Runs.entry, Runs.finish, Runs.completions, Traces.traced}
+use Rattle.machine.specs.{States.lastTime, States.machineCheck, Steps.tickOf, Runs.entry, Runs.finish, Runs.completions, Traces.traced}
 
 -- A claim about every set and running times that pass the checks 4 to 8.
 abbrev pub EveryMachine : (List Job → List ℕ → Type 0) → Type 0
@@ -25,7 +25,7 @@ pub record FinishedWhen (js : List Job) (times : List ℕ) : Type 0 where
 
 -- `machine-legal`: the entries of the machine's first n ticks are a run of demand 3, for every n, with the effective releases.
 abbrev pub Demanded : List Job → List ℕ → Type 0
-Demanded js times = (n : ℕ) → Run (tableOf js) (tableOf js .earliest) times (tabulate 0 n (entry (tableOf js) times))
+Demanded js times = (n : ℕ) → isRun (tableOf js) (tableOf js .earliest) times (tabulate 0 n (entry (tableOf js) times)) ≡ true
 
 -- `machine-keeps-bounds`: each completion is at or before its ITR bound.
 abbrev pub KeepsBounds : List Job → List ℕ → Type 0

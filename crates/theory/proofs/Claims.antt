@@ -5,7 +5,7 @@ use mathlib.Core.Path.{_≡_, ap, _∙_}
 use native.Mathlib.Omega.{arith}
 use lib.Dec.{lit<}
 use native.Mathlib.Nat.{zero-add}
-use Rattle.laws.specs.Words.{tabulate}
+use Rattle.laws.specs.Words.{numberAt, tabulate}
 use Rattle.laws.proofs.Tabulate.{length-tabulate, getD-tabulate}
 use Rattle.jobs.specs.declared.job.Job.{Job}
 use Rattle.jobs.specs.declared.refusal.Check.the-variants.{Passed}
@@ -15,7 +15,6 @@ use Rattle.jobs.proofs.Accepted.{accepted}
 use Rattle.theory.specs.Table.{Table, tableOf}
 use Rattle.theory.specs.Bounds.{boundAt, ert, boundLimit}
 use Rattle.theory.specs.Rounds.{itr}
-use Rattle.theory.specs.Runs.{timeAt}
 use Rattle.theory.specs.Claims.{EveryAccepted, Compared, Demand3, Determined, Runnable, Bounded, FewRounds, Least, NoLater, Unmoved}
 use Rattle.theory.proofs.WellFormed.{WellFormed}
 use Rattle.theory.proofs.AcceptedSets.{accepted-ordered, accepted-well, accepted-most, accepted-latest}
@@ -24,6 +23,7 @@ use Rattle.theory.proofs.Settling.{itr-settled, rounds-limit, settled-u
 use Rattle.theory.proofs.Least.{itr-below}
 use Rattle.theory.proofs.FewRounds.{rounds-few}
 use Rattle.theory.proofs.Soundness.{itr-holds, cja-holds, ert-holds}
+use Rattle.theory.proofs.Legal.{times-to, releases-to}
 use Rattle.theory.proofs.Existence.{run-of}
 use Rattle.theory.proofs.Limits.{ert-limit}
 use Rattle.theory.proofs.PartBounds.{part-no-later}
@@ -53,13 +53,13 @@ rounds-determined = of-well-formed Determined (λ t well answer h. settled-uniqu
 pub runs-exist : EveryAccepted Runnable
 runs-exist =
     of-well-formed Runnable (λ t well.
-    let most : (u : ℕ) → u < t .count → timeAt (tabulate 0 (t .count) (t .most)) u ≡ t .most u
-    = (λ u l. unfold timeAt in getD-tabulate 0 (t .count) (t .most) 0 u l ∙ ap (t .most) (zero-add u)) in
+    let most : (u : ℕ) → u < t .count → numberAt (tabulate 0 (t .count) (t .most)) u ≡ t .most u
+    = (λ u l. getD-tabulate 0 (t .count) (t .most) 0 u l ∙ ap (t .most) (zero-add u)) in
     record {
       times = tabulate 0 (t .count) (t .most);
       release = t .earliest;
-      in-range = record { each = length-tabulate 0 (t .count) (t .most); low = λ u l. omega (arith, most u l, well .range u l); high = λ u l. omega (arith, most u l) };
-      in-time = record { early = λ u l. omega arith; late = λ u l. well .releases u l };
+      in-range = times-to t (tabulate 0 (t .count) (t .most)) (record { each = length-tabulate 0 (t .count) (t .most); low = λ u l. omega (arith, most u l, well .range u l); high = λ u l. omega (arith, most u l) });
+      in-time = releases-to t (t .earliest) (record { early = λ u l. omega arith; late = λ u l. well .releases u l });
       each-length = run-of t;
     })
 

@@ -1,7 +1,7 @@
 -- What is proved of every accepted set, in proofs/Claims under the name in each comment. Document 01, "The runs of demand 3". Assumes nothing.
-use Rattle.laws.specs.Words.{ℕ, zero, suc, _≤_, _<_, max, _≡_, List, length}
+use Rattle.laws.specs.Words.{ℕ, zero, suc, _≤_, _<_, max, _≡_, true, List, length}
 use Rattle.jobs.specs.{declared.job.Job.Job, declared.refusal.Check.Check, Checks.checkOf}
-use Rattle.theory.specs.{Table.Table, Table.tableOf, Bounds.boundAt, Bounds.ert, Bounds.cja, Bounds.boundLimit, Rounds.round, Rounds.after, Rounds.Answer, Rounds.roundLimit, Rounds.itr, Runs.Entry, Runs.Times, Runs.Releases, Runs.Run, Runs.CompleteBy, Parts.Part, Parts.LessUrgent}
+use Rattle.theory.specs.{Table.Table, Table.tableOf, Bounds.boundAt, Bounds.ert, Bounds.cja, Bounds.boundLimit, Rounds.round, Rounds.after, Rounds.Answer, Rounds.roundLimit, Rounds.itr, Runs.Entry, Runs.timesFit, Runs.releasesFit, Runs.isRun, Runs.CompleteBy, Parts.Part, Parts.LessUrgent}
 
 -- A claim about the table of every accepted list of jobs: no number of checking a set handed by value applies to it.
 abbrev pub EveryAccepted : (Table → Type 0) → Type 0
@@ -44,9 +44,10 @@ Determined t = (answer : Answer) → Settled t answer → answer ≡ itr t
 pub record Runnable (t : Table) : Type 0 where
   pub times : List ℕ
   pub release : ℕ → ℕ
-  pub in-range : Times t times
-  pub in-time : Releases t release
-  pub each-length : (r : ℕ → ℕ) (x : List ℕ) → Releases t r → Times t x → (n : ℕ) → (run : List Entry) × (length run ≡ n) × Run t r x run
+  pub in-range : timesFit t times ≡ true
+  pub in-time : releasesFit t release ≡ true
+  pub each-length : (r : ℕ → ℕ) (x : List ℕ) → releasesFit t r ≡ true → timesFit t x ≡ true
+      → (n : ℕ) → (run : List Entry) × (length run ≡ n) × (isRun t r x run ≡ true)
 
 -- `bounds-limited`: all bounds are below 10,000,000,000.
 pub record Bounded (t : Table) : Type 0 where
