@@ -3,7 +3,7 @@ use Prim.Native.Char.{code}
 use Prim.Native.String.{String, [] as nothing, _∷_ as _then_}
 pub use Prim.Native.Nat.{ℕ, zero, suc, _+_, _-_, _*_, _/_, _%_, _^_, _≤_, _<_, max, min}
 pub use mathlib.Core.Path.{_≡_}
-pub use mathlib.Core.Logic.{_⊎_, _≢_}
+pub use mathlib.Core.Logic.{_⊎_, _↔_, _≢_}
 pub use mathlib.Core.Bool.{Bool, true, false, cond, not, _&&_, _||_}
 pub use mathlib.Core.List.{List, [], _∷_, _++_, map}
 pub use lib.Dec.{leb, ltb, eqb}

@@ -18,7 +18,7 @@ start = record { time = 0; work = replicate maxJobs 0 }
 abbrev pub allComplete : List ℕ → List ℕ → ℕ → Bool
 allComplete times work n = everyBelow n (complete times (numberAt work))
 
--- A job may run in the next tick: as in a run it is ready, by its effective release, at the state's time and with its work.
+-- A job is ready in a state: as in a run, by its effective release and the state's work and time.
 abbrev pub readyIn : Table → List ℕ → State → ℕ → Bool
 readyIn t times s = ready t (t .earliest) times (numberAt (s .work)) (s .time)
 

@@ -27,7 +27,7 @@ use Rattle.machine.specs.declared.trace.Span.{Span}
 use Rattle.machine.specs.States.{lastTime}
 use Rattle.machine.specs.Traces.{row, rows, traced}
 use Rattle.machine.proofs.SpanTimes.{EndedBy, spans-ended}
-use Rattle.machine.proofs.Claims.{trace-within-twice}
+use Rattle.machine.proofs.Claims.{claims}
 use Rattle.report.specs.Rows.{afterCommas, columnsText, boundsRow, boundsRows, entriesText, lineEnd}
 use Rattle.report.specs.Texts.{boundsHeader, boundsText, mostTimes, traceHeader, traceText}
 use Rattle.report.specs.Claims.{maxBytes, TextsFit}
@@ -139,7 +139,7 @@ module _ (js : List Job) (passed : checkOf js ≡ Passed) where
   trace-fit =
       let times = mostTimes js in
       let ss = traced js times in
-      omega (arith, length-append traceHeader (entriesText (rows js ss) (length ss)), ap length (rows-spans js ss), spans-within ss (spans-ended (tableOf js) times lastTime), trace-within-twice js times (most-passed js passed), ok .few)
+      omega (arith, length-append traceHeader (entriesText (rows js ss) (length ss)), ap length (rows-spans js ss), spans-within ss (spans-ended (tableOf js) times lastTime), claims js times (most-passed js passed) .trace-within-twice, ok .few)
 
 pub texts-fit : TextsFit
 texts-fit js passed = record { bounds = bounds-fit js passed; trace = trace-fit js passed }
