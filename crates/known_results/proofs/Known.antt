@@ -19,10 +19,10 @@ use Rattle.theory.specs.Interference.{openBlock, largestBlock, interference}
 use Rattle.theory.specs.Bounds.{ertRule, interferenceAt, ert, demand, lowest, pairBound, largestPair, cjaWith, cja, boundAt}
 use Rattle.theory.specs.Rounds.{itrStart, overlap, round, settle, roundLimit, itr}
 use Rattle.theory.specs.Verdicts.{slack, slacks, meets}
+use Rattle.theory.specs.Runs.{complete, predecessorComplete, ready, timesFit}
 use Rattle.theory.specs.Claims.{Demand3}
 use Rattle.theory.proofs.Claims.{claims}
-use Rattle.machine.specs.States.{lastTime, complete, predecessorComplete, ready, allComplete}
-use Rattle.machine.specs.Times.{inRange, timesFit, machineCheck}
+use Rattle.machine.specs.States.{lastTime, allComplete, machineCheck}
 use Rattle.machine.specs.Pick.{outranks, better, bestUpTo, pick}
 use Rattle.machine.specs.Steps.{next}
 use Rattle.machine.specs.Traces.{noted, rows}
@@ -92,7 +92,7 @@ first-and-rest : {A : Type 0} {x y : A} {xs ys : List A} → x ≡ y → xs ≡ 
 first-and-rest e f = rw (e, f)
 
 pub known-results : map byDefinition cases ≡ cases
-unfolding EachSettled urgencyOf tabulate sumBelow greatest lastOf isNext inLimits recordCheck recordsCheck checkOf joined effectiveRelease openBlock largestBlock interference ertRule interferenceAt ert demand lowest pairBound largestPair cjaWith cja itrStart overlap round sameUpTo settle roundLimit itr slacks meets everyBelow inRange timesFit machineCheck complete predecessorComplete ready outranks better bestUpTo pick next noted rows onward carried
+unfolding EachSettled urgencyOf tabulate sumBelow greatest lastOf isNext inLimits recordCheck recordsCheck checkOf joined effectiveRelease openBlock largestBlock interference ertRule interferenceAt ert demand lowest pairBound largestPair cjaWith cja itrStart overlap round sameUpTo settle roundLimit itr slacks meets everyBelow timesFit machineCheck complete predecessorComplete ready outranks better bestUpTo pick next noted rows onward carried
 known-results =
     first-and-rest (figures p1 refl refl refl refl refl refl refl (refl, omega arith, refl, refl, (refl, omega arith, refl, refl, tt)))
     (first-and-rest (figures (p4 12 (pos 0) true) refl refl refl refl refl refl refl (refl, omega arith, refl, refl, tt))

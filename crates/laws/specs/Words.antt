@@ -3,13 +3,17 @@ use Prim.Native.Char.{code}
 use Prim.Native.String.{String, [] as nothing, _∷_ as _then_}
 pub use Prim.Native.Nat.{ℕ, zero, suc, _+_, _-_, _*_, _/_, _%_, _^_, _≤_, _<_, max, min}
 pub use mathlib.Core.Path.{_≡_}
-pub use mathlib.Core.Logic.{_⊎_, _≢_}
+pub use mathlib.Core.Logic.{_⊎_, _↔_, _≢_}
 pub use mathlib.Core.Bool.{Bool, true, false, cond, not, _&&_, _||_}
 pub use mathlib.Core.Option.{Option, none, some}
 pub use mathlib.Core.List.{List, [], _∷_, _++_, map}
 pub use lib.Dec.{leb, ltb, eqb}
 pub use lib.ListN.{length, getD, set, take, drop, replicate}
 pub use lib.IntN.{ℤ, pos, negsuc, natAbs, negℤ, _-ℤ_}
+
+-- The number at a place, 0 beyond the list.
+abbrev pub numberAt : List ℕ → ℕ → ℕ
+numberAt xs i = getD xs i 0
 
 -- f 0 + f 1 + … + f (n - 1).
 unfoldable pub sumBelow : ℕ → (ℕ → ℕ) → ℕ

@@ -7,15 +7,17 @@ use native.Mathlib.Omega.{arith}
 use native.Mathlib.Numerals.{add-one}
 use lib.Dec.{leb, ltb, eqb}
 use borrow.Author.Tests.{leb-true, le-leb, lt-ltb, eqb-true, eqb-false}
+use Rattle.laws.specs.Words.{numberAt}
 use Rattle.laws.proofs.Tests.{by-test, same-test, and-left, and-right, and-both}
 use Rattle.jobs.specs.declared.job.Job.{Job}
 use Rattle.jobs.specs.Jobs.{jobAt, urgencyOf}
 use Rattle.theory.specs.Table.{Table, joined, tableOf, effectiveRelease}
 use Rattle.theory.proofs.Given.{given}
+use Rattle.theory.specs.Runs.{complete, predecessorComplete, ready}
 use Rattle.theory.proofs.Rules.{first-after}
 use Rattle.theory.proofs.Releases.{release-first, release-next}
 use Rattle.machine.specs.declared.state.State.{State}
-use Rattle.machine.specs.States.{complete, predecessorComplete, ready}
+use Rattle.machine.specs.States.{readyIn}
 use Rattle.machine.specs.Pick.{better, bestUpTo}
 use Rattle.machine.specs.declared.pick.Best.{Best}
 use Rattle.machine.proofs.Picks.{best-step}
@@ -61,11 +63,11 @@ module _ (js : List Job) (times : List ℕ) (s : State) where
     earliest : t .earliest u ≡ max (job .release) (before + scan .least)
     released : scan .released ≡ leb before (s .time)
     since : scan .since ≡ s .time - before
-    predecessor : predecessorComplete t times (s .work) u ≡ scan .done
+    predecessor : predecessorComplete t times (numberAt (s .work)) u ≡ scan .done
 
   record Leading (job : Job) (u : ℕ) : Type 0 where
     earliest : t .earliest u ≡ job .release
-    predecessor : predecessorComplete t times (s .work) u ≡ true
+    predecessor : predecessorComplete t times (numberAt (s .work)) u ≡ true
 
   is-following : (u : ℕ) → follows (scanOf js times s u) (jobAt js u) u ≡ true → Following (scanOf js times s u) (jobAt js u) u
   unfolding scanned predecessorComplete joined
@@ -101,11 +103,11 @@ module _ (js : List Job) (times : List ℕ) (s : State) where
   best-so-far (suc v) = refl
 
   -- a record that is not ready
-  pub unready-early : (u : ℕ) → leb (t .earliest u) (s .time) ≡ false → false ≡ ready t times s u
+  pub unready-early : (u : ℕ) → leb (t .earliest u) (s .time) ≡ false → false ≡ readyIn t times s u
   unfolding ready
   unready-early u e = rw e
 
-  pub unready-complete : (u : ℕ) → complete times (s .work) u ≡ true → false ≡ ready t times s u
+  pub unready-complete : (u : ℕ) → complete times (numberAt (s .work)) u ≡ true → false ≡ readyIn t times s u
   unfolding ready
   unready-complete u c = by-test (leb (t .earliest u) (s .time)) (λ e. rw (e, c)) (λ e. rw e)
 
@@ -135,21 +137,21 @@ module _ (js : List Job) (times : List ℕ) (s : State) {scan : Scan} {job : Job
     since-leading = rw (leading .earliest)
 
   -- ---- it is ready
-  module _ (e : leb (tableOf js .earliest u) (s .time) ≡ true) (c : complete times (s .work) u ≡ false) where
-    pub ready-following : follows scan job u ≡ true → scan .done ≡ ready (tableOf js) times s u
+  module _ (e : leb (tableOf js .earliest u) (s .time) ≡ true) (c : complete times (numberAt (s .work)) u ≡ false) where
+    pub ready-following : follows scan job u ≡ true → scan .done ≡ readyIn (tableOf js) times s u
     unfolding ready
     ready-following h = rw (e, c, following h .predecessor)
 
-    pub ready-leading : follows scan job u ≡ false → true ≡ ready (tableOf js) times s u
+    pub ready-leading : follows scan job u ≡ false → true ≡ readyIn (tableOf js) times s u
     unfolding ready
     ready-leading h = rw (e, c, leading h .predecessor)
 
   -- ---- the best after it
-  best-next : cond (ready (tableOf js) times s u) (better (scan .best) u (urgencyOf job) (job .chain)) (scan .best) ≡ bestUpTo (tableOf js) times s (suc u)
+  best-next : cond (readyIn (tableOf js) times s u) (better (scan .best) u (urgencyOf job) (job .chain)) (scan .best) ≡ bestUpTo (tableOf js) times s (suc u)
   best-next = rw (is-scan, here, ← add-one u) (best-step (tableOf js) times s (scanOf js times s u .best) u (best-so-far js times s u))
 
-  pub best-ready : ready (tableOf js) times s u ≡ true → better (scan .best) u (urgencyOf job) (job .chain) ≡ bestUpTo (tableOf js) times s (suc u)
+  pub best-ready : readyIn (tableOf js) times s u ≡ true → better (scan .best) u (urgencyOf job) (job .chain) ≡ bestUpTo (tableOf js) times s (suc u)
   best-ready r = rw r at best-next
 
-  pub best-unready : ready (tableOf js) times s u ≡ false → scan .best ≡ bestUpTo (tableOf js) times s (suc u)
+  pub best-unready : readyIn (tableOf js) times s u ≡ false → scan .best ≡ bestUpTo (tableOf js) times s (suc u)
   best-unready r = rw r at best-next

@@ -3,7 +3,7 @@
 ghost use Rattle.laws.specs.Words.{_≡_, ℕ, suc, _-_, _&&_, List, length, getD, leb, ltb, eqb};
 ghost use Rattle.jobs.specs.Jobs.{jobAt};
 ghost use Rattle.theory.specs.Table.{tableOf};
-ghost use Rattle.machine.specs.{States.ready, Pick.bestUpTo};
+ghost use Rattle.machine.specs.{States.readyIn, Pick.bestUpTo};
 ghost use Rattle.machine.proofs.Scanned.{scanned};
 use jobs::job::Job;
 use machine::pick::Best;
@@ -71,7 +71,7 @@ fn since_release(scan: Scan, job: Job, at: usize, time: u64) -> u64
 
 // Whether a record is ready.
 fn is_ready_record(scan: Scan, job: Job, at: usize, times: &[u64], state: State) -> bool
-    ensures { λ r. ⌜ ((js : List Job) → (scan .best, scan .last, scan .least, scan .done, scan .released, scan .since) ≡ scanned js (now (times .entry)) state at → job ≡ jobAt js at → r ≡ ready (tableOf js) (now (times .entry)) state at) ⌝ }
+    ensures { λ r. ⌜ ((js : List Job) → (scan .best, scan .last, scan .least, scan .done, scan .released, scan .since) ≡ scanned js (now (times .entry)) state at → job ≡ jobAt js at → r ≡ readyIn (tableOf js) (now (times .entry)) state at) ⌝ }
 {
     let work = state.work;
     if !is_released(scan, job, at, state.time) {

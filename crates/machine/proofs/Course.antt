@@ -9,19 +9,21 @@ use mathlib.Core.Logic.{_⊎_, inl, inr}
 use native.Mathlib.Omega.{arith}
 use native.Mathlib.Nat.{add-zero, add-suc}
 use lib.ListN.{length, getD, set, length-set, replicate, length-replicate}
+use Rattle.laws.specs.Words.{numberAt}
 use Rattle.laws.proofs.Tests.{by-test, by-order, by-equal, both-ways}
 use Rattle.laws.proofs.Sums.{sum-ext, sum-eq, sum-bump}
 use Rattle.jobs.specs.Limits.{maxJobs}
 use Rattle.theory.specs.Table.{Table}
-use Rattle.theory.specs.Runs.{Entry, idle, runs}
+use Rattle.theory.specs.Runs.{Entry, idle, runs, complete}
 use Rattle.machine.specs.declared.state.State.{State}
-use Rattle.machine.specs.States.{complete, ready, allComplete}
+use Rattle.machine.specs.States.{allComplete, readyIn}
 use Rattle.machine.specs.Pick.{pick}
 use Rattle.machine.specs.Steps.{moved, next}
 use Rattle.machine.specs.Runs.{after}
 use Rattle.laws.proofs.Every.{every-at, first-failing}
+use Rattle.theory.proofs.Legal.{complete-eq, complete-ne, parts-ready}
 use Rattle.machine.proofs.RunningTimes.{sumOf}
-use Rattle.machine.proofs.Readiness.{complete-eq, complete-ne, parts-ready, predecessor-all, worked-here, worked-other}
+use Rattle.machine.proofs.Readiness.{predecessor-all, worked-here, worked-other}
 use Rattle.machine.proofs.Ticking.{pick-chosen, pick-none, pick-open, pick-left, next-moved, next-stays}
 
 -- ---- work, added up
@@ -33,7 +35,7 @@ sum-worked work u n l room =
 
 module _ (times work : List ℕ) (n : ℕ) where
   pub all-sum : allComplete times work n ≡ true → sumOf work n ≡ sumOf times n
-  all-sum h = sum-ext n (λ i. getD work i 0) (λ i. getD times i 0) (λ i l. complete-eq times work i (every-at (complete times work) n i l h))
+  all-sum h = sum-ext n (λ i. getD work i 0) (λ i. getD times i 0) (λ i l. complete-eq times (numberAt work) i (every-at (complete times (numberAt work)) n i l h))
 
   module _ (within : (u : ℕ) → u < n → getD work u 0 ≤ getD times u 0) where
     pub sum-all : sumOf times n ≤ sumOf work n → allComplete times work n ≡ true
@@ -41,8 +43,8 @@ module _ (times work : List ℕ) (n : ℕ) where
         by-test (allComplete times work n)
         (λ e. e)
         (λ e.
-        let f = first-failing (complete times work) n e in
-        absurd (complete-ne times work (f .place) (f .fails) (sum-eq n (λ i. getD work i 0) (λ i. getD times i 0) within h (f .place) (f .below))))
+        let f = first-failing (complete times (numberAt work)) n e in
+        absurd (complete-ne times (numberAt work) (f .place) (f .fails) (sum-eq n (λ i. getD work i 0) (λ i. getD times i 0) within h (f .place) (f .below))))
 
     pub sum-open : allComplete times work n ≡ false → sumOf work n < sumOf times n
     sum-open h = by-order (sumOf times n) (sumOf work n) (λ l. absurd (both-ways (sum-all l) h)) (λ l. l)
@@ -89,10 +91,10 @@ module _ (t : Table) (times : List ℕ) where
     -- an idle tick with work left comes before the last release
     pub idle-early : (s : State) → pick t times s ≡ idle → allComplete times (s .work) (t .count) ≡ false → s .time < R
     idle-early s e h =
-        let f = first-failing (complete times (s .work)) (t .count) h in
+        let f = first-failing (complete times (numberAt (s .work))) (t .count) h in
         by-order R (s .time)
         (λ l.
-        let is-ready : ready t times s (f .place) ≡ true = parts-ready t times s (f .place) (record { released = omega (arith, released (f .place) (f .below)); unfinished = f .fails; predecessor = predecessor-all t times (s .work) (f .place) (f .holds) }) in
+        let is-ready : readyIn t times s (f .place) ≡ true = parts-ready t (t .earliest) times (numberAt (s .work)) (s .time) (f .place) (record { released = omega (arith, released (f .place) (f .below)); unfinished = f .fails; predecessor = predecessor-all t times (numberAt (s .work)) (f .place) (f .holds) }) in
         absurd (both-ways is-ready (pick-none t times s e (f .place) (f .below))))
         (λ l. l)
 
@@ -100,7 +102,7 @@ module _ (t : Table) (times : List ℕ) where
     pub runs-left : (s : State) (u : ℕ) → pick t times s ≡ runs u → ((k : ℕ) → k < t .count → getD (s .work) k 0 ≤ getD times k 0) → getD (s .work) u 0 < getD times u 0
     runs-left s u e within =
         let c = pick-chosen t times s u e in
-        let ne = complete-ne times (s .work) u (pick-open t times s u e) in
+        let ne = complete-ne times (numberAt (s .work)) u (pick-open t times s u e) in
         omega (arith, within u (c .inside))
 
     going-moved : (n : ℕ) (s : State) → Going n s → allComplete times (s .work) (t .count) ≡ false → s .time ≡ n → n ≤ R + sumOf (s .work) (t .count)

@@ -18,8 +18,7 @@ use Rattle.theory.specs.Table.{Table, tableOf}
 use Rattle.theory.specs.Runs.{Entry, idle, runs}
 use Rattle.machine.specs.declared.state.State.{State}
 use Rattle.machine.specs.declared.trace.Span.{Span}
-use Rattle.machine.specs.States.{lastTime, start, allComplete}
-use Rattle.machine.specs.Times.{machineCheck}
+use Rattle.machine.specs.States.{lastTime, start, allComplete, machineCheck}
 use Rattle.machine.specs.Pick.{pick}
 use Rattle.machine.specs.Steps.{next}
 use Rattle.machine.specs.Runs.{after, entry, runOf}

@@ -9,10 +9,12 @@ use mathlib.Core.List.{List}
 use native.Mathlib.Omega.{arith}
 use lib.Dec.{leb}
 use borrow.Author.Tests.{leb-true, le-leb}
+use Rattle.laws.specs.Words.{numberAt}
 use Rattle.laws.proofs.Tests.{by-test, by-order, same-test}
 use Rattle.theory.specs.Table.{Table}
+use Rattle.theory.specs.Runs.{complete, predecessorComplete, ready}
 use Rattle.theory.proofs.NextRelease.{nextRelease, next-after}
-use Rattle.machine.specs.States.{lastTime, complete, predecessorComplete, ready}
+use Rattle.machine.specs.States.{lastTime, readyIn}
 use Rattle.machine.specs.Pick.{bestUpTo, pick}
 use Rattle.machine.proofs.Readiness.{stateOf}
 
@@ -44,9 +46,9 @@ module _ (t : Table) (times work : List ℕ) (time b : ℕ) (apart : (u : ℕ) �
       let past : t .earliest u ≤ time = leb-true (t .earliest u) time h in
       le-leb (t .earliest u) s (omega arith))
 
-  ready-same : (u : ℕ) → u < t .count → ready t times (stateOf s work) u ≡ ready t times (stateOf time work) u
+  ready-same : (u : ℕ) → u < t .count → readyIn t times (stateOf s work) u ≡ readyIn t times (stateOf time work) u
   unfolding ready
-  ready-same u l = ap (λ (b : Bool). b && not (complete times work u) && predecessorComplete t times work u) (released-same u l)
+  ready-same u l = ap (λ (b : Bool). b && not (complete times (numberAt work) u) && predecessorComplete t times (numberAt work) u) (released-same u l)
 
   best-same : (n : ℕ) → n ≤ t .count → bestUpTo t times (stateOf s work) n ≡ bestUpTo t times (stateOf time work) n
   unfolding bestUpTo

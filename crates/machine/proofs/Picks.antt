@@ -16,7 +16,7 @@ use Rattle.theory.specs.Table.{Table}
 use Rattle.theory.proofs.Columns.{Alike}
 use Rattle.machine.specs.declared.state.State.{State}
 use Rattle.machine.specs.declared.pick.Best.{Best}
-use Rattle.machine.specs.States.{ready}
+use Rattle.machine.specs.States.{readyIn}
 use Rattle.machine.specs.Pick.{outranks, better, bestUpTo}
 use Rattle.machine.proofs.Readiness.{ready-alike}
 
@@ -107,26 +107,26 @@ module _ (t : Table) where
     -- a ready job among the first n that is before every other one
     pub record Chosen (n u : ℕ) : Type 0 where
       pub inside : u < n
-      pub is-ready : ready t times s u ≡ true
-      pub top : (k : ℕ) → k < n → ready t times s k ≡ true → (k ≡ u) ⊎ Before u k
+      pub is-ready : readyIn t times s u ≡ true
+      pub top : (k : ℕ) → k < n → readyIn t times s k ≡ true → (k ≡ u) ⊎ Before u k
 
     pub data Picked (n : ℕ) (best : Best) : Type 0 where
-      none : best .found ≡ false → ((k : ℕ) → k < n → ready t times s k ≡ false) → Picked n best
+      none : best .found ≡ false → ((k : ℕ) → k < n → readyIn t times s k ≡ false) → Picked n best
       one : best .found ≡ true → best .urgency ≡ t .urgency (best .at) → best .chain ≡ t .chain (best .at) → Chosen n (best .at) → Picked n best
 
-    unready : (n : ℕ) → ready t times s n ≡ false → (best : Best) → Picked n best → Picked (suc n) best
-    unready n r best (none f h) = none f (λ k l. by-last k n l (λ q. ap (ready t times s) q ∙ r) (λ m. h k m))
+    unready : (n : ℕ) → readyIn t times s n ≡ false → (best : Best) → Picked n best → Picked (suc n) best
+    unready n r best (none f h) = none f (λ k l. by-last k n l (λ q. ap (readyIn t times s) q ∙ r) (λ m. h k m))
     unready n r best (one f p c h) =
         one f p c (record {
           inside = omega (arith, h .inside);
           is-ready = h .is-ready;
-          top = λ k l g. by-last k n l (λ q. absurd (both-ways g (ap (ready t times s) q ∙ r))) (λ m. h .top k m g);
+          top = λ k l g. by-last k n l (λ q. absurd (both-ways g (ap (readyIn t times s) q ∙ r))) (λ m. h .top k m g);
         })
 
-    only : (n : ℕ) → ready t times s n ≡ true → ((k : ℕ) → k < n → ready t times s k ≡ false) → Chosen (suc n) n
+    only : (n : ℕ) → readyIn t times s n ≡ true → ((k : ℕ) → k < n → readyIn t times s k ≡ false) → Chosen (suc n) n
     only n r h = record { inside = omega arith; is-ready = r; top = λ k l g. by-last k n l (λ q. inl q) (λ m. absurd (both-ways g (h k m))) }
 
-    taken : (n u : ℕ) → ready t times s n ≡ true → Chosen n u → goesFirst t n u ≡ true → Chosen (suc n) n
+    taken : (n u : ℕ) → readyIn t times s n ≡ true → Chosen n u → goesFirst t n u ≡ true → Chosen (suc n) n
     taken n u r h g =
         record {
           inside = omega arith;
@@ -145,7 +145,7 @@ module _ (t : Table) where
           top = λ k l q. by-last k n l (λ e. rw e (inr (inr (g, h .inside)))) (λ m. h .top k m q);
         }
 
-    ready-next : (n : ℕ) → ready t times s n ≡ true → (best : Best) → Picked n best → Picked (suc n) (better best n (t .urgency n) (t .chain n))
+    ready-next : (n : ℕ) → readyIn t times s n ≡ true → (best : Best) → Picked n best → Picked (suc n) (better best n (t .urgency n) (t .chain n))
     unfolding better goesFirst
     ready-next n r best (none f h) = rw f (one refl refl refl (only n r h))
     ready-next n r best (one f p c h) =
@@ -157,12 +157,12 @@ module _ (t : Table) where
     unfolding bestUpTo
     picked-up-to zero = none refl (λ k l. absurd (omega arith))
     picked-up-to (suc n) =
-        by-test (ready t times s n)
+        by-test (readyIn t times s n)
         (λ r. rw r (ready-next n r (bestUpTo t times s n) (picked-up-to n)))
         (λ r. rw r (unready n r (bestUpTo t times s n) (picked-up-to n)))
 
 pub best-step : (t : Table) (times : List ℕ) (s : State) (best : Best) (u : ℕ) → best ≡ bestUpTo t times s u
-    → cond (ready t times s u) (better best u (t .urgency u) (t .chain u)) best ≡ bestUpTo t times s (u + 1)
+    → cond (readyIn t times s u) (better best u (t .urgency u) (t .chain u)) best ≡ bestUpTo t times s (u + 1)
 unfolding bestUpTo
 best-step t times s best u e = rw (add-one, e)
 

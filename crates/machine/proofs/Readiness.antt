@@ -1,81 +1,32 @@
 -- Ready jobs: what it takes, and what one more tick of work changes. Assumes nothing.
---   Parts   what makes a job ready
-use Prim.Native.Nat.{ℕ, zero, suc, _+_, _-_, _≤_, _<_}
+use Prim.Native.Nat.{ℕ, zero, suc, _+_, _-_, _<_}
 use mathlib.Core.Path.{_≡_, refl, sym, ap, _∙_}
-use mathlib.Core.Bool.{Bool, true, false, cond, not, _&&_}
+use mathlib.Core.Bool.{Bool, true, false, cond}
 use mathlib.Core.List.{List, []}
 use mathlib.Core.Logic.{_≢_}
 use native.Mathlib.Omega.{arith}
-use lib.Dec.{leb}
 use lib.ListN.{length, getD, set}
 use lib.Seq.{getD-set-same, getD-set-other}
-use borrow.Author.Tests.{leb-true, le-leb, lt-leb, eqb-true, eqb-false, eq-eqb, ne-eqb, not-true}
-use Rattle.laws.proofs.Tests.{and-left, and-right}
+use borrow.Author.Tests.{lt-leb}
+use Rattle.laws.specs.Words.{numberAt}
 use Rattle.theory.specs.Table.{Table, joined}
+use Rattle.theory.specs.Runs.{complete, predecessorComplete, ready}
 use Rattle.theory.proofs.Columns.{seen, Alike}
+use Rattle.theory.proofs.Legal.{predecessor-next, predecessor-none}
 use Rattle.machine.specs.declared.state.State.{State}
-use Rattle.machine.specs.States.{complete, predecessorComplete, ready}
+use Rattle.machine.specs.States.{readyIn}
 
 -- a state by its time and work
 abbrev pub stateOf : ℕ → List ℕ → State
 stateOf time work = record { time = time; work = work }
 
-pub complete-eq : (times work : List ℕ) (u : ℕ) → complete times work u ≡ true → getD work u 0 ≡ getD times u 0
-unfolding complete
-complete-eq times work u h = eqb-true _ _ h
-
-pub eq-complete : (times work : List ℕ) (u : ℕ) → getD work u 0 ≡ getD times u 0 → complete times work u ≡ true
-unfolding complete
-eq-complete times work u h = eq-eqb _ _ h
-
-pub complete-ne : (times work : List ℕ) (u : ℕ) → complete times work u ≡ false → getD work u 0 ≢ getD times u 0
-unfolding complete
-complete-ne times work u h = eqb-false _ _ h
-
-pub ne-complete : (times work : List ℕ) (u : ℕ) → getD work u 0 ≢ getD times u 0 → complete times work u ≡ false
-unfolding complete
-ne-complete times work u h = ne-eqb _ _ h
+pub early-not-ready : (t : Table) (release : ℕ → ℕ) (times : List ℕ) (work : ℕ → ℕ) (n u : ℕ) → n < release u → ready t release times work n u ≡ false
+unfolding ready
+early-not-ready t release times work n u l = rw (lt-leb (release u) n l)
 
 module _ (t : Table) (times : List ℕ) where
-  pub record Parts (s : State) (u : ℕ) : Type 0 where
-    pub released : t .earliest u ≤ s .time
-    pub unfinished : complete times (s .work) u ≡ false
-    pub predecessor : predecessorComplete t times (s .work) u ≡ true
-
-  pub ready-parts : (s : State) (u : ℕ) → ready t times s u ≡ true → Parts s u
-  unfolding ready
-  ready-parts s u h =
-      let both = leb (t .earliest u) (s .time) && not (complete times (s .work) u) in
-      let two : both ≡ true = and-left both (predecessorComplete t times (s .work) u) h in
-      record {
-        released = leb-true _ _ (and-left (leb (t .earliest u) (s .time)) (not (complete times (s .work) u)) two);
-        unfinished = not-true _ (and-right (leb (t .earliest u) (s .time)) (not (complete times (s .work) u)) two);
-        predecessor = and-right both (predecessorComplete t times (s .work) u) h;
-      }
-
-  pub parts-ready : (s : State) (u : ℕ) → Parts s u → ready t times s u ≡ true
-  unfolding ready
-  parts-ready s u p = rw (le-leb (t .earliest u) (s .time) (p .released), p .unfinished, p .predecessor)
-
-  pub early-not-ready : (s : State) (u : ℕ) → s .time < t .earliest u → ready t times s u ≡ false
-  unfolding ready
-  early-not-ready s u l = rw (lt-leb (t .earliest u) (s .time) l)
-
-  -- a job that has a predecessor, and one that has none
-  pub predecessor-next : (work : List ℕ) (v : ℕ) → t .chain v ≡ t .chain (suc v) → predecessorComplete t times work (suc v) ≡ complete times work v
-  unfolding predecessorComplete joined
-  predecessor-next work v e = rw (eq-eqb (t .chain v) (t .chain (suc v)) e)
-
-  pub predecessor-none : (work : List ℕ) (v : ℕ) → t .chain v ≢ t .chain (suc v) → predecessorComplete t times work (suc v) ≡ true
-  unfolding predecessorComplete joined
-  predecessor-none work v e = rw (ne-eqb (t .chain v) (t .chain (suc v)) e)
-
-  pub predecessor-first : (work : List ℕ) → predecessorComplete t times work 0 ≡ true
-  unfolding predecessorComplete
-  predecessor-first work = refl
-
   -- where every job before is complete, the predecessor is
-  pub predecessor-all : (work : List ℕ) (u : ℕ) → ((k : ℕ) → k < u → complete times work k ≡ true) → predecessorComplete t times work u ≡ true
+  pub predecessor-all : (work : ℕ → ℕ) (u : ℕ) → ((k : ℕ) → k < u → complete times work k ≡ true) → predecessorComplete t times work u ≡ true
   unfolding predecessorComplete
   predecessor-all work zero h = refl
   predecessor-all work (suc v) h = by-joined (joined t v) (h v (omega arith))
@@ -85,7 +36,7 @@ module _ (t : Table) (times : List ℕ) where
       by-joined false e = refl
 
   -- what stays complete keeps its successor's predecessor complete
-  pub predecessor-stays : (work work' : List ℕ) (u : ℕ) → ((k : ℕ) → complete times work k ≡ true → complete times work' k ≡ true)
+  pub predecessor-stays : (work work' : ℕ → ℕ) (u : ℕ) → ((k : ℕ) → complete times work k ≡ true → complete times work' k ≡ true)
       → predecessorComplete t times work u ≡ true → predecessorComplete t times work' u ≡ true
   unfolding predecessorComplete
   predecessor-stays work work' zero h e = refl
@@ -96,31 +47,31 @@ module _ (t : Table) (times : List ℕ) where
       by-joined false q = refl
 
 -- ---- the urgencies and, for predecessors, the releases are not read
-pub predecessor-seen : (chain p r : List ℕ) (times work : List ℕ) (u : ℕ) → predecessorComplete (seen chain [] []) times work u ≡ predecessorComplete (seen chain p r) times work u
+pub predecessor-seen : (chain p r times : List ℕ) (work : ℕ → ℕ) (u : ℕ) → predecessorComplete (seen chain [] []) times work u ≡ predecessorComplete (seen chain p r) times work u
 unfolding predecessorComplete joined
 predecessor-seen chain p r times work zero = refl
 predecessor-seen chain p r times work (suc v) = refl
 
-pub predecessor-bare : (chain p r : List ℕ) (times work : List ℕ) (u : ℕ) → predecessorComplete (seen chain [] r) times work u ≡ predecessorComplete (seen chain p r) times work u
+pub predecessor-bare : (chain p r times : List ℕ) (work : ℕ → ℕ) (u : ℕ) → predecessorComplete (seen chain [] r) times work u ≡ predecessorComplete (seen chain p r) times work u
 unfolding predecessorComplete joined
 predecessor-bare chain p r times work zero = refl
 predecessor-bare chain p r times work (suc v) = refl
 
-pub ready-seen : (chain p r times : List ℕ) (s : State) (u : ℕ) → ready (seen chain [] r) times s u ≡ ready (seen chain p r) times s u
+pub ready-seen : (chain p r times : List ℕ) (s : State) (u : ℕ) → readyIn (seen chain [] r) times s u ≡ readyIn (seen chain p r) times s u
 unfolding ready predecessorComplete joined
 ready-seen chain p r times s zero = refl
 ready-seen chain p r times s (suc v) = refl
 
 -- ---- tables that agree
 module _ {a b : Table} {n : ℕ} (same : Alike a b n) (times : List ℕ) where
-  pub predecessor-alike : (work : List ℕ) (u : ℕ) → u < n → predecessorComplete a times work u ≡ predecessorComplete b times work u
+  pub predecessor-alike : (work : ℕ → ℕ) (u : ℕ) → u < n → predecessorComplete a times work u ≡ predecessorComplete b times work u
   unfolding predecessorComplete joined
   predecessor-alike work zero l = refl
   predecessor-alike work (suc v) l = rw (same .chain v (omega arith), same .chain (suc v) l)
 
-  pub ready-alike : (s : State) (u : ℕ) → u < n → ready a times s u ≡ ready b times s u
+  pub ready-alike : (s : State) (u : ℕ) → u < n → readyIn a times s u ≡ readyIn b times s u
   unfolding ready
-  ready-alike s u l = rw (predecessor-alike (s .work) u l, same .release u l)
+  ready-alike s u l = rw (predecessor-alike (numberAt (s .work)) u l, same .release u l)
 
 -- ---- one more tick of work at u
 module _ (times work : List ℕ) (u : ℕ) where
@@ -133,12 +84,12 @@ module _ (times work : List ℕ) (u : ℕ) where
   pub worked-other : (k : ℕ) → k ≢ u → getD worked k 0 ≡ getD work k 0
   worked-other k ne = getD-set-other work u k (getD work u 0 + 1) 0 ne
 
-  pub complete-other : (k : ℕ) → k ≢ u → complete times worked k ≡ complete times work k
+  pub complete-other : (k : ℕ) → k ≢ u → complete times (numberAt worked) k ≡ complete times (numberAt work) k
   unfolding complete
   complete-other k ne = rw (worked-other k ne)
 
 -- ---- the predecessor, by the place before
-module _ (t : Table) (times work : List ℕ) (u : ℕ) (l : 0 < u) where
+module _ (t : Table) (times : List ℕ) (work : ℕ → ℕ) (u : ℕ) (l : 0 < u) where
   step-back : u ≡ suc (u - 1)
   step-back = omega arith
 

@@ -33,8 +33,7 @@ use Rattle.theory.proofs.AcceptedSets.{accepted-latest}
 use Rattle.machine.specs.declared.columns.Columns.{Columns}
 use Rattle.machine.specs.declared.pick.Best.{Best}
 use Rattle.machine.specs.declared.run.Completed.{Completed}
-use Rattle.machine.specs.States.{lastTime, allComplete}
-use Rattle.machine.specs.Times.{machineCheck}
+use Rattle.machine.specs.States.{lastTime, allComplete, machineCheck}
 use Rattle.machine.specs.Pick.{bestUpTo, pick}
 use Rattle.machine.specs.Steps.{moved}
 use Rattle.machine.specs.Runs.{after, entry, completion, finish, completions, runOf}

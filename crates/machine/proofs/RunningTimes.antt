@@ -8,9 +8,9 @@ use native.Mathlib.Omega.{arith}
 use native.Mathlib.Numerals.{add-one}
 use lib.Dec.{leb, eqb}
 use lib.ListN.{length, getD}
-use borrow.Author.Tests.{leb-true, le-leb, lt-leb, eqb-true, eq-eqb, ne-eqb}
-use Rattle.laws.specs.Words.{sumBelow, everyBelow}
-use Rattle.laws.proofs.Tests.{and-left, and-right, and-both}
+use borrow.Author.Tests.{le-leb, lt-leb, eq-eqb, ne-eqb}
+use Rattle.laws.specs.Words.{sumBelow, everyBelow, numberAt}
+use Rattle.laws.proofs.Tests.{and-both}
 use Rattle.laws.proofs.Sums.{sum-const}
 use Rattle.jobs.specs.declared.job.Job.{Job}
 use Rattle.jobs.specs.declared.set.JobSet.{JobSet}
@@ -23,10 +23,11 @@ use Rattle.jobs.specs.Jobs.{noJob, jobsOf, jobAt}
 use Rattle.jobs.specs.Checks.{checkOf}
 use Rattle.jobs.proofs.Accepted.{Accepted, accepted}
 use Rattle.jobs.proofs.Sets.{length-jobs, job-at}
-use Rattle.theory.specs.Table.{tableOf}
-use Rattle.theory.specs.Runs.{timeAt, Times}
-use Rattle.machine.specs.Times.{inRange, timesFit, machineCheck}
-use Rattle.laws.proofs.Every.{every-at, every-not}
+use Rattle.theory.specs.Table.{Table, tableOf}
+use Rattle.theory.specs.Runs.{timesFit}
+use Rattle.theory.proofs.Legal.{Times, times-from}
+use Rattle.laws.proofs.Every.{every-not}
+use Rattle.machine.specs.States.{machineCheck}
 
 -- ---- sums
 abbrev pub sumOf : List ℕ → ℕ → ℕ
@@ -44,13 +45,16 @@ pub sum-limit : (times : List ℕ) → ((i : ℕ) → i < length times → getD 
 sum-limit times each n l = sum-const n maxTime (λ i. getD times i 0) (λ i m. each i (omega arith))
 
 -- ---- the check, place by place
+unfoldable pub inRange : Table → List ℕ → ℕ → Bool
+inRange t times u = leb (t .least u) (numberAt times u) && leb (numberAt times u) (t .most u)
+
 module _ (set : JobSet) (times : List ℕ) where
   pub fit-count : length times ≢ set .count → timesFit (tableOf (jobsOf set)) times ≡ false
   unfolding timesFit
   fit-count ne = rw (length-jobs set, ne-eqb (length times) (set .count) ne)
 
   out-of-range : (i : ℕ) → i < set .count → inRange (tableOf (jobsOf set)) times i ≡ false → timesFit (tableOf (jobsOf set)) times ≡ false
-  unfolding timesFit
+  unfolding timesFit inRange
   out-of-range i l e =
       let count : i < length (jobsOf set) = omega (arith, length-jobs set) in
       rw (every-not (inRange (tableOf (jobsOf set)) times) (length (jobsOf set)) i count e) (and-false (eqb (length times) (length (jobsOf set))))
@@ -76,7 +80,7 @@ module _ (set : JobSet) (times : List ℕ) where
 
   pub fit-all : (n : ℕ) → length times ≡ set .count → n ≡ set .count → everyBelow n (inRange (tableOf (jobsOf set)) times) ≡ true
       → timesFit (tableOf (jobsOf set)) times ≡ true
-  unfolding timesFit
+  unfolding timesFit inRange
   fit-all n e f h =
       let l = length-jobs set in
       let all = inRange (tableOf (jobsOf set)) times in
@@ -108,33 +112,26 @@ module _ (js : List Job) (times : List ℕ) where
     pub set-accepted : Accepted js
     set-accepted = accepted js set-passed
 
-    fits : timesFit (tableOf js) times ≡ true
+    pub times-fit : timesFit (tableOf js) times ≡ true
     unfolding machineCheck
-    fits = by-fit (timesFit (tableOf js) times) refl (rw set-passed at passed)
+    times-fit = by-fit (timesFit (tableOf js) times) refl (rw set-passed at passed)
       where
         by-fit : (b : Bool) → timesFit (tableOf js) times ≡ b → unless b RunningTimes Passed ≡ Passed → timesFit (tableOf js) times ≡ true
         by-fit true e h = e
         by-fit false e h = let z : _≡_ {A = ℕ} 0 1 = cc in absurd (omega arith)
 
+    -- the running times of demand 3
+    pub times-in-range : Times (tableOf js) times
+    times-in-range = times-from (tableOf js) times times-fit
+
     pub times-each : length times ≡ length js
-    times-each = eqb-true _ _ (and-left (eqb (length times) (length js)) (everyBelow (length js) (inRange (tableOf js) times)) (unfold timesFit in fits))
+    times-each = times-in-range .each
 
-    range-at : (u : ℕ) → u < length js → inRange (tableOf js) times u ≡ true
-    range-at u l = every-at (inRange (tableOf js) times) (length js) u l (and-right (eqb (length times) (length js)) (everyBelow (length js) (inRange (tableOf js) times)) (unfold timesFit in fits))
-
-    pub time-least : (u : ℕ) → u < length js → jobAt js u .least ≤ getD times u 0
-    time-least u l = leb-true _ _ (and-left (leb (jobAt js u .least) (getD times u 0)) (leb (getD times u 0) (jobAt js u .most)) (unfold inRange in range-at u l))
-
-    pub time-most : (u : ℕ) → u < length js → getD times u 0 ≤ jobAt js u .most
-    time-most u l = leb-true _ _ (and-right (leb (jobAt js u .least) (getD times u 0)) (leb (getD times u 0) (jobAt js u .most)) (unfold inRange in range-at u l))
+    time-most : (u : ℕ) → u < length js → numberAt times u ≤ jobAt js u .most
+    time-most u l = times-in-range .high u l
 
     pub times-brief : (length times ≤ maxJobs) × ((i : ℕ) → i < length times → getD times i 0 ≤ maxTime)
     times-brief = (
       omega (arith, times-each, set-accepted .few),
       λ i l. omega (arith, time-most i (omega (arith, times-each)), set-accepted .limits i (omega (arith, times-each)) .time),
     )
-
-    -- the running times of demand 3
-    pub times-in-range : Times (tableOf js) times
-    unfolding timeAt
-    times-in-range = record { each = times-each; low = time-least; high = time-most }

@@ -12,20 +12,21 @@ use native.Mathlib.Numerals.{add-one}
 use lib.Dec.{ltb, eqb}
 use lib.ListN.{length, getD, length-set, replicate, length-replicate}
 use borrow.Author.Tests.{lt-ltb, eqb-true, eq-eqb}
-use Rattle.laws.specs.Words.{sumBelow}
+use Rattle.laws.specs.Words.{sumBelow, numberAt}
 use Rattle.laws.proofs.Tests.{by-test, by-equal, both-ways, and-left, cond-one}
 use Rattle.laws.proofs.Sums.{sum-ext, sum-bump, sum-const}
 use Rattle.jobs.specs.Limits.{maxJobs}
 use Rattle.theory.specs.Table.{Table}
-use Rattle.theory.specs.Runs.{Entry, idle, runs}
+use Rattle.theory.specs.Runs.{Entry, idle, runs, complete}
+use Rattle.theory.proofs.Legal.{Parts, ready-parts, parts-ready}
 use Rattle.machine.specs.declared.state.State.{State}
 use Rattle.machine.specs.declared.trace.Span.{Span}
-use Rattle.machine.specs.States.{start, complete, ready, allComplete}
+use Rattle.machine.specs.States.{start, allComplete, readyIn}
 use Rattle.machine.specs.Pick.{pick}
 use Rattle.machine.specs.Steps.{moved}
 use Rattle.machine.specs.Runs.{after, entry}
 use Rattle.machine.specs.Traces.{noted, spans}
-use Rattle.machine.proofs.Readiness.{Parts, ready-parts, parts-ready, predecessor-stays, worked, worked-here, worked-other, complete-other}
+use Rattle.machine.proofs.Readiness.{predecessor-stays, worked, worked-here, worked-other, complete-other}
 use Rattle.machine.proofs.Picks.{Before, before-asymmetric, Chosen}
 use Rattle.machine.proofs.Ticking.{pick-chosen, pick-none, next-moved, next-stays}
 use Rattle.machine.proofs.Course.{none-done, pick-settled, going-time}
@@ -97,19 +98,19 @@ module _ (t : Table) (times : List ℕ) where
   begun work = counted (started work) (t .count)
 
   abbrev ended : List ℕ → ℕ
-  ended work = counted (complete times work) (t .count)
+  ended work = counted (complete times (numberAt work)) (t .count)
 
   -- it runs now; or a job before it does; or there is a span to spare
   data Why (s : State) (ss : List Span) (u : ℕ) : Type 0 where
     active : goesOn ss u (s .time) ≡ true → Why s ss u
-    under : (a : ℕ) → a < t .count → started (s .work) a ≡ true → complete times (s .work) a ≡ false → goesOn ss a (s .time) ≡ true → Before t a u → Why s ss u
+    under : (a : ℕ) → a < t .count → started (s .work) a ≡ true → complete times (numberAt (s .work)) a ≡ false → goesOn ss a (s .time) ≡ true → Before t a u → Why s ss u
     spared : length ss + 1 ≤ begun (s .work) + ended (s .work) → Why s ss u
 
   record Good (s : State) (ss : List Span) : Type 0 where
     pub long : length (s .work) ≡ maxJobs
     pub bound : length ss ≤ begun (s .work) + ended (s .work)
-    pub on : (u : ℕ) → u < t .count → started (s .work) u ≡ true → complete times (s .work) u ≡ false → ready t times s u ≡ true
-    pub why : (u : ℕ) → u < t .count → started (s .work) u ≡ true → complete times (s .work) u ≡ false → Why s ss u
+    pub on : (u : ℕ) → u < t .count → started (s .work) u ≡ true → complete times (numberAt (s .work)) u ≡ false → readyIn t times s u ≡ true
+    pub why : (u : ℕ) → u < t .count → started (s .work) u ≡ true → complete times (numberAt (s .work)) u ≡ false → Why s ss u
 
   module _ (few : t .count ≤ maxJobs) (s : State) (ss : List Span) (g : Good s ss) where
     -- a tick in which the job at u runs
@@ -123,8 +124,8 @@ module _ (t : Table) (times : List ℕ) where
       chosen : Chosen t times s (t .count) u
       chosen = pick-chosen t times s u q
 
-      parts : Parts t times s u
-      parts = ready-parts t times s u (chosen .is-ready)
+      parts : Parts t (t .earliest) times (numberAt (s .work)) (s .time) u
+      parts = ready-parts t (t .earliest) times (numberAt (s .work)) (s .time) u (chosen .is-ready)
 
       room : u < length (s .work)
       room = omega (arith, chosen .inside, g .long)
@@ -135,11 +136,11 @@ module _ (t : Table) (times : List ℕ) where
       begun-old : started (s .work) u ≡ true → begun (later .work) ≡ begun (s .work)
       begun-old f = counted-same (started (s .work)) (started (later .work)) (t .count) u (started-other (s .work) u) (started-here (s .work) u room ∙ sym f)
 
-      ended-new : complete times (later .work) u ≡ true → ended (later .work) ≡ ended (s .work) + 1
-      ended-new f = counted-more (complete times (s .work)) (complete times (later .work)) (t .count) u (complete-other times (s .work) u) (chosen .inside) (parts .unfinished) f
+      ended-new : complete times (numberAt (later .work)) u ≡ true → ended (later .work) ≡ ended (s .work) + 1
+      ended-new f = counted-more (complete times (numberAt (s .work))) (complete times (numberAt (later .work))) (t .count) u (complete-other times (s .work) u) (chosen .inside) (parts .unfinished) f
 
-      ended-old : complete times (later .work) u ≡ false → ended (later .work) ≡ ended (s .work)
-      ended-old f = counted-same (complete times (s .work)) (complete times (later .work)) (t .count) u (complete-other times (s .work) u) (f ∙ sym (parts .unfinished))
+      ended-old : complete times (numberAt (later .work)) u ≡ false → ended (later .work) ≡ ended (s .work)
+      ended-old f = counted-same (complete times (numberAt (s .work))) (complete times (numberAt (later .work))) (t .count) u (complete-other times (s .work) u) (f ∙ sym (parts .unfinished))
 
       -- a new span of a job that has begun needs one to spare
       to-spare : goesOn ss u (s .time) ≡ false → Why s ss u → length ss + 1 ≤ begun (s .work) + ended (s .work)
@@ -163,28 +164,28 @@ module _ (t : Table) (times : List ℕ) where
 
       in-bound-after : length longer ≤ begun (later .work) + ended (later .work)
       in-bound-after =
-          by-test (complete times (later .work) u)
+          by-test (complete times (numberAt (later .work)) u)
           (λ b. omega (arith, ended-new b, in-bound))
           (λ b. omega (arith, ended-old b, in-bound))
 
       -- what was complete still is
-      stays : (k : ℕ) → complete times (s .work) k ≡ true → complete times (later .work) k ≡ true
-      stays k c = complete-other times (s .work) u k (λ e. both-ways c (ap (complete times (s .work)) e ∙ parts .unfinished)) ∙ c
+      stays : (k : ℕ) → complete times (numberAt (s .work)) k ≡ true → complete times (numberAt (later .work)) k ≡ true
+      stays k c = complete-other times (s .work) u k (λ e. both-ways c (ap (complete times (numberAt (s .work))) e ∙ parts .unfinished)) ∙ c
 
-      ready-later : (k : ℕ) → Parts t times s k → complete times (later .work) k ≡ false → ready t times later k ≡ true
+      ready-later : (k : ℕ) → Parts t (t .earliest) times (numberAt (s .work)) (s .time) k → complete times (numberAt (later .work)) k ≡ false → readyIn t times later k ≡ true
       ready-later k p c =
-          parts-ready t times later k
-          (record { released = omega (arith, p .released); unfinished = c; predecessor = predecessor-stays t times (s .work) (later .work) k stays (p .predecessor) })
+          parts-ready t (t .earliest) times (numberAt (later .work)) (later .time) k
+          (record { released = omega (arith, p .released); unfinished = c; predecessor = predecessor-stays t times (numberAt (s .work)) (numberAt (later .work)) k stays (p .predecessor) })
 
       -- a job that has begun and is not complete, other than u, was so before
-      was-ready : (k : ℕ) → k < t .count → k ≢ u → started (later .work) k ≡ true → complete times (later .work) k ≡ false → ready t times s k ≡ true
+      was-ready : (k : ℕ) → k < t .count → k ≢ u → started (later .work) k ≡ true → complete times (numberAt (later .work)) k ≡ false → readyIn t times s k ≡ true
       was-ready k kl ne st c = g .on k kl (sym (started-other (s .work) u k ne) ∙ st) (sym (complete-other times (s .work) u k ne) ∙ c)
 
-      on-later : (k : ℕ) → k < t .count → started (later .work) k ≡ true → complete times (later .work) k ≡ false → ready t times later k ≡ true
+      on-later : (k : ℕ) → k < t .count → started (later .work) k ≡ true → complete times (numberAt (later .work)) k ≡ false → readyIn t times later k ≡ true
       on-later k kl st c =
           by-equal k u
-          (λ e. ready-later k (subst (Parts t times s) (sym e) parts) c)
-          (λ ne. ready-later k (ready-parts t times s k (was-ready k kl ne st c)) c)
+          (λ e. ready-later k (subst (Parts t (t .earliest) times (numberAt (s .work)) (s .time)) (sym e) parts) c)
+          (λ ne. ready-later k (ready-parts t (t .earliest) times (numberAt (s .work)) (s .time) k (was-ready k kl ne st c)) c)
 
       goes-later : goesOn longer u (later .time) ≡ true
       goes-later = rw add-one (extended-goes ss u (s .time))
@@ -193,12 +194,12 @@ module _ (t : Table) (times : List ℕ) where
       over k ne (inl e) = absurd (ne e)
       over k ne (inr o) = o
 
-      why-later : (k : ℕ) → k < t .count → started (later .work) k ≡ true → complete times (later .work) k ≡ false → Why later longer k
+      why-later : (k : ℕ) → k < t .count → started (later .work) k ≡ true → complete times (numberAt (later .work)) k ≡ false → Why later longer k
       why-later k kl st c =
           by-equal k u
           (λ e. active (subst (λ (i : ℕ). goesOn longer i (later .time) ≡ true) (sym e) goes-later))
           (λ ne.
-          by-test (complete times (later .work) u)
+          by-test (complete times (numberAt (later .work)) u)
           (λ b. spared (omega (arith, ended-new b, in-bound)))
           (λ b. under u (chosen .inside) (started-here (s .work) u room) b goes-later (over k ne (chosen .top k kl (was-ready k kl ne st c)))))
 
@@ -256,5 +257,5 @@ module _ (t : Table) (times : List ℕ) where
           arith,
           good n .bound,
           counted-most (started (after t times n .work)) (t .count),
-          counted-most (complete times (after t times n .work)) (t .count),
+          counted-most (complete times (numberAt (after t times n .work))) (t .count),
         )

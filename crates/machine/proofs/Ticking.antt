@@ -18,19 +18,19 @@ use Rattle.jobs.specs.Limits.{maxJobs}
 use Rattle.jobs.specs.Jobs.{noJob, jobsOf, jobAt}
 use Rattle.jobs.proofs.Sets.{length-jobs, job-at}
 use Rattle.theory.specs.Table.{Table, tableOf}
-use Rattle.theory.specs.Runs.{Entry, idle, runs}
+use Rattle.theory.specs.Runs.{Entry, idle, runs, complete}
 use Rattle.theory.proofs.Columns.{seen, Alike}
 use Rattle.machine.specs.declared.state.State.{State}
 use Rattle.machine.specs.declared.columns.Columns.{Columns}
 use Rattle.machine.specs.declared.pick.Best.{Best}
 use Rattle.machine.specs.declared.step.Ticked.the-variants.{Ran, Idle, Finished, Refused as RefusedTick}
-use Rattle.laws.specs.Words.{everyBelow}
-use Rattle.machine.specs.States.{lastTime, complete, ready, allComplete}
-use Rattle.machine.specs.Times.{machineCheck}
+use Rattle.laws.specs.Words.{everyBelow, numberAt}
+use Rattle.machine.specs.States.{lastTime, allComplete, readyIn, machineCheck}
 use Rattle.machine.specs.Pick.{bestUpTo, pick}
 use Rattle.machine.specs.Steps.{moved, next, tickOf, possible, stateCheck, stepOf}
 use Rattle.laws.proofs.Every.{every-not, every-at, every-ext}
-use Rattle.machine.proofs.Readiness.{predecessor-bare, predecessor-alike, ready-parts, complete-ne}
+use Rattle.theory.proofs.Legal.{complete-ne, ready-parts}
+use Rattle.machine.proofs.Readiness.{predecessor-bare, predecessor-alike}
 use Rattle.machine.proofs.RunningTimes.{set-accepted, times-each}
 use Rattle.machine.proofs.Picks.{Chosen, Picked, none, one, picked-up-to, best-alike}
 
@@ -57,19 +57,19 @@ module _ (t : Table) (times : List ℕ) (s : State) where
       by-picked best (none f h) e = let q : idle ≡ runs u = rw f at e in let z : _≡_ {A = ℕ} 0 1 = cc in absurd (omega arith)
       by-picked best (one f p c h) e = let q : runs (best .at) ≡ runs u = rw f at e in let same : best .at ≡ u = cc in rw same at h
 
-  pub pick-none : pick t times s ≡ idle → (k : ℕ) → k < t .count → ready t times s k ≡ false
+  pub pick-none : pick t times s ≡ idle → (k : ℕ) → k < t .count → readyIn t times s k ≡ false
   unfolding pick
   pick-none = by-picked (bestUpTo t times s (t .count)) (picked-up-to t times s (t .count))
     where
-      by-picked : (best : Best) → Picked t times s (t .count) best → cond (best .found) (runs (best .at)) idle ≡ idle → (k : ℕ) → k < t .count → ready t times s k ≡ false
+      by-picked : (best : Best) → Picked t times s (t .count) best → cond (best .found) (runs (best .at)) idle ≡ idle → (k : ℕ) → k < t .count → readyIn t times s k ≡ false
       by-picked best (none f h) e = h
       by-picked best (one f p c h) e = let q : runs (best .at) ≡ idle = rw f at e in let z : _≡_ {A = ℕ} 0 1 = cc in absurd (omega arith)
 
-  pub pick-open : (u : ℕ) → pick t times s ≡ runs u → complete times (s .work) u ≡ false
-  pick-open u e = ready-parts t times s u (pick-chosen u e .is-ready) .unfinished
+  pub pick-open : (u : ℕ) → pick t times s ≡ runs u → complete times (numberAt (s .work)) u ≡ false
+  pick-open u e = ready-parts t (t .earliest) times (numberAt (s .work)) (s .time) u (pick-chosen u e .is-ready) .unfinished
 
   pub pick-left : (u : ℕ) → pick t times s ≡ runs u → allComplete times (s .work) (t .count) ≡ false
-  pick-left u e = every-not (complete times (s .work)) (t .count) u (pick-chosen u e .inside) (pick-open u e)
+  pick-left u e = every-not (complete times (numberAt (s .work))) (t .count) u (pick-chosen u e .inside) (pick-open u e)
 
   -- the next state
   pub next-moved : (e : Entry) → pick t times s ≡ e → allComplete times (s .work) (t .count) ≡ false → next t times s ≡ moved e s
@@ -106,8 +106,8 @@ module _ (chain urgency release : List ℕ) {t : Table} {n : ℕ} (h : Alike (se
   unfolding possible
   possible-alike u l =
       rw (
-        predecessor-bare chain urgency release times (s .work) u,
-        predecessor-alike h times (s .work) u l,
+        predecessor-bare chain urgency release times (numberAt (s .work)) u,
+        predecessor-alike h times (numberAt (s .work)) u l,
         h .release u l,
       )
 
@@ -170,7 +170,7 @@ module _ (set : JobSet) (columns : Columns) (times : List ℕ) (p : Prepared set
 
       -- with no more work than its running time, the job has work left
       pub advance-work : getD (s .work) (best .at) 0 ≤ getD times (best .at) 0 → getD (s .work) (best .at) 0 < getD times (best .at) 0
-      advance-work l = let ne = complete-ne times (s .work) (best .at) (pick-open (tableOf (jobsOf set)) times s (best .at) advance-found) in omega arith
+      advance-work l = let ne = complete-ne times (numberAt (s .work)) (best .at) (pick-open (tableOf (jobsOf set)) times s (best .at) advance-found) in omega arith
 
       pub advance-ran : tickOf (jobsOf set) times s ≡ record { ticked = Ran (getD (set .jobs) (best .at) noJob .chain) (getD (set .jobs) (best .at) noJob .job); state = moved (runs (best .at)) s }
       advance-ran = rw (← job-at set (best .at) advance-inside) (tick-ran (jobsOf set) times s (best .at) advance-found)

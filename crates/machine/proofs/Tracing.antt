@@ -27,8 +27,7 @@ use Rattle.theory.specs.Runs.{idle, runs}
 use Rattle.machine.specs.declared.trace.Span.{Span}
 use Rattle.machine.specs.declared.trace.Put.{Put}
 use Rattle.machine.specs.declared.trace.Traced.the-variants.{Entries, Refused as RefusedTrace}
-use Rattle.machine.specs.States.{lastTime, allComplete}
-use Rattle.machine.specs.Times.{machineCheck}
+use Rattle.machine.specs.States.{lastTime, allComplete, machineCheck}
 use Rattle.machine.specs.Runs.{after, entry}
 use Rattle.machine.proofs.Spans.{goesOn, extended, on-at, spans-within-twice}
 use Rattle.machine.specs.Traces.{noted, spans, row, rows, traceCheck, traced, traceOf, tracedIn}

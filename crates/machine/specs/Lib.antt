@@ -1,5 +1,4 @@
 pub mod States
-pub mod Times
 pub mod Pick
 pub mod Steps
 pub mod Runs

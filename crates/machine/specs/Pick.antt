@@ -1,7 +1,7 @@
 -- The pick: which ready job runs. Document 01, "The ready job of highest priority runs; among equals, the lowest chain number". Assumes nothing.
 use Rattle.laws.specs.Words.{ℕ, zero, suc, Bool, true, false, cond, not, _&&_, _||_, List, ltb, eqb}
 use Rattle.theory.specs.{Table.Table, Runs.Entry, Runs.idle, Runs.runs}
-use Rattle.machine.specs.{declared.state.State.State, declared.pick.Best.Best, States.ready}
+use Rattle.machine.specs.{declared.state.State.State, declared.pick.Best.Best, States.readyIn}
 
 -- A job of urgency p and chain c goes before one of urgency q and chain d.
 unfoldable pub outranks : ℕ → ℕ → ℕ → ℕ → Bool
@@ -19,7 +19,7 @@ unfoldable pub bestUpTo : Table → List ℕ → State → ℕ → Best
 bestUpTo t times s zero = record { found = false; at = 0; urgency = 0; chain = 0 }
 bestUpTo t times s (suc u) =
     let best = bestUpTo t times s u in
-    cond (ready t times s u) (better best u (t .urgency u) (t .chain u)) best
+    cond (readyIn t times s u) (better best u (t .urgency u) (t .chain u)) best
 
 -- What runs of all jobs, idle where none is ready: the entry of a state's next tick.
 unfoldable pub pick : Table → List ℕ → State → Entry

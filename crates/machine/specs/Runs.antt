@@ -3,7 +3,7 @@ use Rattle.laws.specs.Words.{ℕ, zero, suc, cond, List, replicate, tabulate}
 use Rattle.jobs.specs.{declared.job.Job.Job, Limits.maxJobs, Refusals.onPass}
 use Rattle.theory.specs.{Table.Table, Table.tableOf, Runs.Entry, Runs.names}
 use Rattle.machine.specs.declared.{state.State.State, run.Completed.Completed}
-use Rattle.machine.specs.{States.lastTime, States.start, Times.machineCheck, Pick.pick, Steps.next}
+use Rattle.machine.specs.{States.lastTime, States.start, States.machineCheck, Pick.pick, Steps.next}
 
 -- The state after n ticks.
 unfoldable pub after : Table → List ℕ → ℕ → State

@@ -1,7 +1,9 @@
--- The machine's state, and which jobs are ready in it; work and running times are lists by place. Document 01, "The machine". Assumes nothing.
-use Rattle.laws.specs.Words.{ℕ, zero, suc, Bool, true, cond, not, _&&_, List, leb, eqb, getD, replicate, everyBelow}
-use Rattle.jobs.specs.Limits.{maxJobs}
-use Rattle.theory.specs.Table.{Table, joined}
+-- The machine's state, which jobs are ready in it, and what is checked of a set and its running times. Document 01, "The machine" and number 8.
+-- Work and running times are lists by place. Assumes nothing.
+use Rattle.laws.specs.Words.{ℕ, Bool, List, replicate, everyBelow, numberAt}
+use Rattle.jobs.specs.declared.{job.Job.Job, refusal.Refusal.Refusal, refusal.Check.Check}
+use Rattle.jobs.specs.{Limits.maxJobs, Refusals.unless, Refusals.andThen, Checks.checkOf}
+use Rattle.theory.specs.{Table.Table, Table.tableOf, Runs.complete, Runs.ready, Runs.timesFit}
 use Rattle.machine.specs.declared.state.State.{State}
 
 -- The greatest time of a state, which no run from time 0 reaches.
@@ -12,19 +14,14 @@ lastTime = 2000000000
 abbrev pub start : State
 start = record { time = 0; work = replicate maxJobs 0 }
 
--- A job's work is its running time.
-unfoldable pub complete : List ℕ → List ℕ → ℕ → Bool
-complete times work u = eqb (getD work u 0) (getD times u 0)
-
 -- Each of the first n jobs is complete.
 abbrev pub allComplete : List ℕ → List ℕ → ℕ → Bool
-allComplete times work n = everyBelow n (complete times work)
+allComplete times work n = everyBelow n (complete times (numberAt work))
 
--- A job's predecessor is complete: the job before it in the table, where that is of its chain.
-unfoldable pub predecessorComplete : Table → List ℕ → List ℕ → ℕ → Bool
-predecessorComplete t times work zero = true
-predecessorComplete t times work (suc v) = cond (joined t v) (complete times work v) true
+-- A job is ready in a state: as in a run, by its effective release and the state's work and time.
+abbrev pub readyIn : Table → List ℕ → State → ℕ → Bool
+readyIn t times s = ready t (t .earliest) times (numberAt (s .work)) (s .time)
 
--- A job may run in the next tick: its release is at most the time, it is not complete, and its predecessor is.
-unfoldable pub ready : Table → List ℕ → State → ℕ → Bool
-ready t times s u = leb (t .earliest u) (s .time) && not (complete times (s .work) u) && predecessorComplete t times (s .work) u
+-- What the machine's operations check of a set and its running times: 4 to 7, then 8.
+unfoldable pub machineCheck : List Job → List ℕ → Check
+machineCheck js times = andThen (checkOf js) (unless (timesFit (tableOf js) times) Refusal.RunningTimes Check.Passed)

@@ -1,15 +1,15 @@
 -- One tick on a state that is handed over, with its checks. Document 01, "The machine" and numbers 4 to 8 and 11. Assumes nothing.
-use Rattle.laws.specs.Words.{ℕ, _+_, Bool, cond, _&&_, _||_, List, leb, ltb, eqb, getD, set, everyBelow}
+use Rattle.laws.specs.Words.{ℕ, _+_, Bool, cond, _&&_, _||_, List, leb, ltb, eqb, set, everyBelow, numberAt}
 use Rattle.jobs.specs.declared.{job.Job.Job, refusal.Refusal.Refusal, refusal.Check.Check}
 use Rattle.jobs.specs.{Jobs.jobAt, Refusals.unless, Refusals.onPass, Refusals.andThen}
-use Rattle.theory.specs.{Table.Table, Table.tableOf, Runs.Entry, Runs.idle, Runs.runs}
+use Rattle.theory.specs.{Table.Table, Table.tableOf, Runs.Entry, Runs.idle, Runs.runs, Runs.predecessorComplete}
 use Rattle.machine.specs.declared.{state.State.State, step.Ticked.Ticked, step.Stepped.Stepped}
-use Rattle.machine.specs.{States.lastTime, States.allComplete, States.predecessorComplete, Times.machineCheck, Pick.pick}
+use Rattle.machine.specs.{States.lastTime, States.allComplete, States.machineCheck, Pick.pick}
 
 -- The state after a tick with this entry: the time goes up by 1, and so does the work of the job that ran.
 abbrev pub moved : Entry → State → State
 moved idle s = record { time = s .time + 1; work = s .work }
-moved (runs u) s = record { time = s .time + 1; work = set (s .work) u (getD (s .work) u 0 + 1) }
+moved (runs u) s = record { time = s .time + 1; work = set (s .work) u (numberAt (s .work) u + 1) }
 
 -- The state after one tick: as it was, where all jobs are complete before it.
 unfoldable pub next : Table → List ℕ → State → State
@@ -32,8 +32,8 @@ tickOf js times s =
 -- A job has no more work than its running time, and work only with its predecessor complete and at a time after its release.
 unfoldable pub possible : Table → List ℕ → State → ℕ → Bool
 possible t times s u =
-    leb (getD (s .work) u 0) (getD times u 0)
-    && (eqb (getD (s .work) u 0) 0 || (predecessorComplete t times (s .work) u && ltb (t .earliest u) (s .time)))
+    leb (numberAt (s .work) u) (numberAt times u)
+    && (eqb (numberAt (s .work) u) 0 || (predecessorComplete t times (numberAt (s .work)) u && ltb (t .earliest u) (s .time)))
 
 -- Number 11: the time is beyond its limit, or the work of some job is not possible.
 unfoldable pub stateCheck : Table → List ℕ → State → Check

@@ -3,7 +3,7 @@ use Rattle.laws.specs.Words.{ℕ, zero, suc, _*_, cond, _&&_, List, [], _∷_, 
 use Rattle.jobs.specs.declared.{job.Job.Job, refusal.Refusal.Refusal, refusal.Check.Check}
 use Rattle.jobs.specs.{Refusals.unless, Refusals.onPass, Refusals.andThen, Jobs.jobAt}
 use Rattle.theory.specs.{Table.Table, Table.tableOf, Runs.Entry, Runs.idle, Runs.runs}
-use Rattle.machine.specs.{declared.trace.Span.Span, declared.trace.Traced.Traced, States.lastTime, Times.machineCheck, Runs.entry}
+use Rattle.machine.specs.{declared.trace.Span.Span, declared.trace.Traced.Traced, States.lastTime, States.machineCheck, Runs.entry}
 
 -- Spans, the latest first, after tick n: the job that ran lengthens the latest where that is its own and ends at n, or begins a new one.
 unfoldable pub noted : List Span → ℕ → Entry → List Span

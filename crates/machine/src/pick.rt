@@ -2,7 +2,7 @@
 ghost use Rattle.laws.specs.Words.{_≡_, _<_, _≤_, cond, length};
 ghost use Rattle.jobs.specs.Limits.{maxJobs};
 ghost use Rattle.theory.proofs.Columns.{seen};
-ghost use Rattle.machine.specs.{States.ready, Pick.outranks, Pick.better, Pick.bestUpTo};
+ghost use Rattle.machine.specs.{States.readyIn, Pick.outranks, Pick.better, Pick.bestUpTo};
 use crate::ready::is_ready;
 use jobs::set::JobSet;
 
@@ -56,7 +56,7 @@ fn consider<'a, 'b>(
     time: u64,
 ) -> Best
     requires { ⌜ (at < maxJobs) × (at < length (now times)) ⌝ }
-    ensures { λ r. let t = seen (now (chain .entry)) (now (urgency .entry)) (now (release .entry)) in ⌜ r ≡ cond (ready t (now (times .entry)) (record { time = time; work = now (work .entry) }) at) (better best at (t .urgency at) (t .chain at)) best ⌝ }
+    ensures { λ r. let t = seen (now (chain .entry)) (now (urgency .entry)) (now (release .entry)) in ⌜ r ≡ cond (readyIn t (now (times .entry)) (record { time = time; work = now (work .entry) }) at) (better best at (t .urgency at) (t .chain at)) best ⌝ }
 {
     if !is_ready(at, chain, release, times, work, time) {
         return best;

@@ -1,8 +1,9 @@
 // Which jobs are ready, from columns of their figures.
-ghost use Rattle.laws.specs.Words.{_≡_, [], _<_, _≤_, length};
+ghost use Rattle.laws.specs.Words.{_≡_, [], _<_, _≤_, length, numberAt};
 ghost use Rattle.jobs.specs.Limits.{maxJobs};
+ghost use Rattle.theory.specs.Runs.{complete, predecessorComplete};
 ghost use Rattle.theory.proofs.Columns.{seen};
-ghost use Rattle.machine.specs.States.{complete, predecessorComplete, ready, allComplete};
+ghost use Rattle.machine.specs.States.{allComplete, readyIn};
 use jobs::set::JobSet;
 
 pub(crate) fn is_complete<'a, 'b>(
@@ -11,7 +12,7 @@ pub(crate) fn is_complete<'a, 'b>(
     work: &'b [u64; JobSet::MAX_JOBS],
 ) -> bool
     requires { ⌜ (at < maxJobs) × (at < length (now times)) ⌝ }
-    ensures { λ r. ⌜ r ≡ complete (now (times .entry)) (now (work .entry)) at ⌝ }
+    ensures { λ r. ⌜ r ≡ complete (now (times .entry)) (numberAt (now (work .entry))) at ⌝ }
 {
     work[at] == times[at]
 }
@@ -23,7 +24,7 @@ pub(crate) fn is_predecessor_complete<'a, 'b>(
     work: &'b [u64; JobSet::MAX_JOBS],
 ) -> bool
     requires { ⌜ (at < maxJobs) × (at < length (now times)) ⌝ }
-    ensures { λ r. ⌜ r ≡ predecessorComplete (seen (now (chain .entry)) [] []) (now (times .entry)) (now (work .entry)) at ⌝ }
+    ensures { λ r. ⌜ r ≡ predecessorComplete (seen (now (chain .entry)) [] []) (now (times .entry)) (numberAt (now (work .entry))) at ⌝ }
 {
     if at == 0 {
         return true;
@@ -43,7 +44,7 @@ pub(crate) fn is_ready<'a, 'b>(
     time: u64,
 ) -> bool
     requires { ⌜ (at < maxJobs) × (at < length (now times)) ⌝ }
-    ensures { λ r. ⌜ r ≡ ready (seen (now (chain .entry)) [] (now (release .entry))) (now (times .entry)) (record { time = time; work = now (work .entry) }) at ⌝ }
+    ensures { λ r. ⌜ r ≡ readyIn (seen (now (chain .entry)) [] (now (release .entry))) (now (times .entry)) (record { time = time; work = now (work .entry) }) at ⌝ }
 {
     if time < release[at] {
         return false;

@@ -1,8 +1,8 @@
 // The check of running times, refusal 8, after those of the set.
 ghost use Rattle.laws.specs.Words.{ℕ, _≡_, _<_, _≤_, length, getD, sumBelow};
 ghost use Rattle.jobs.specs.{Limits.maxJobs, Limits.maxTime, Jobs.jobsOf};
-ghost use Rattle.theory.specs.Table.{tableOf};
-ghost use Rattle.machine.specs.Times.{timesFit, machineCheck};
+ghost use Rattle.theory.specs.{Table.tableOf, Runs.timesFit};
+ghost use Rattle.machine.specs.States.{machineCheck};
 use jobs::check::check;
 use jobs::refusal::Check;
 use jobs::refusal::Refusal;

@@ -27,7 +27,7 @@ use Rattle.machine.specs.declared.trace.Span.{Span}
 use Rattle.machine.specs.States.{lastTime}
 use Rattle.machine.specs.Traces.{row, rows, traced}
 use Rattle.machine.proofs.SpanTimes.{EndedBy, spans-ended}
-use Rattle.machine.proofs.Claims.{trace-within-twice}
+use Rattle.machine.proofs.Claims.{claims}
 use Rattle.report.specs.Texts.{boundsHeader, boundsRow, boundsText, traceHeader, mostTimes, traceText, maxBytes, TextsFit}
 use Rattle.report.proofs.Lines.{lineText, linesUpTo, lines-within, Narrow, line-within}
 use Rattle.report.proofs.EntryTexts.{entriesText}
@@ -121,7 +121,7 @@ module _ (js : List Job) (passed : checkOf js ≡ Passed) where
   trace-fit =
       let times = mostTimes js in
       let ss = traced js times in
-      omega (arith, length-append traceHeader (entriesText (rows js ss) (length ss)), ap length (rows-spans js ss), spans-within ss (spans-ended (tableOf js) times lastTime), trace-within-twice js times (most-passed js passed), ok .few)
+      omega (arith, length-append traceHeader (entriesText (rows js ss) (length ss)), ap length (rows-spans js ss), spans-within ss (spans-ended (tableOf js) times lastTime), claims js times (most-passed js passed) .trace-within-twice, ok .few)
 
 pub texts-fit : TextsFit
 texts-fit js passed = (bounds-fit js passed, trace-fit js passed)

@@ -1,17 +1,13 @@
 -- The most times of a set, as the code has them in an array; the machine takes those of an accepted set. Assumes nothing.
-use Prim.Native.Nat.{ℕ, zero, suc, _≤_, _<_}
+use Prim.Native.Nat.{ℕ, zero, suc, _≤_}
 use mathlib.Core.Bool.{true}
 use mathlib.Core.List.{List, [], _∷_, map}
 use mathlib.Core.Path.{_≡_, refl, sym, ap, _∙_}
 use native.Mathlib.Omega.{arith}
-use lib.Dec.{eqb}
 use lib.ListN.{length, take, getD, length-map}
 use lib.Seq.{take-at}
-use borrow.Author.Tests.{eq-eqb, le-leb}
-use Rattle.laws.specs.Words.{tabulate, padded, everyBelow}
+use Rattle.laws.specs.Words.{tabulate, padded}
 use Rattle.laws.proofs.Lists.{length-padded}
-use Rattle.laws.proofs.Tests.{and-both}
-use Rattle.laws.proofs.Every.{every-all}
 use Rattle.jobs.specs.declared.job.Job.{Job}
 use Rattle.jobs.specs.declared.set.JobSet.{JobSet}
 use Rattle.jobs.specs.declared.refusal.Check.the-variants.{Passed}
@@ -21,7 +17,9 @@ use Rattle.jobs.specs.Checks.{checkOf}
 use Rattle.jobs.proofs.Sets.{length-jobs}
 use Rattle.jobs.proofs.Accepted.{accepted}
 use Rattle.theory.specs.Table.{tableOf}
-use Rattle.machine.specs.Times.{inRange, timesFit, machineCheck}
+use Rattle.theory.specs.Runs.{timesFit}
+use Rattle.theory.proofs.Legal.{times-to}
+use Rattle.machine.specs.States.{machineCheck}
 use Rattle.machine.proofs.RunningTimes.{times-passed}
 use Rattle.report.specs.Texts.{mostTimes}
 
@@ -59,16 +57,14 @@ most-room s most passed e =
     omega (arith, ap length e, length-padded maxJobs 0 (mostTimes (jobsOf s)) few, length-most (jobsOf s), length-jobs s)
 
 module _ (js : List Job) (passed : checkOf js ≡ Passed) where
-  most-in-range : (i : ℕ) → i < length js → inRange (tableOf js) (mostTimes js) i ≡ true
-  unfolding inRange
-  most-in-range i l = rw (most-at js i, le-leb (jobAt js i .least) (jobAt js i .most) (accepted js passed .limits i l .range), le-leb (jobAt js i .most) (jobAt js i .most) (omega arith))
-
   most-fit : timesFit (tableOf js) (mostTimes js) ≡ true
-  unfolding timesFit
   most-fit =
-      and-both (eqb (length (mostTimes js)) (length js)) (everyBelow (length js) (inRange (tableOf js) (mostTimes js)))
-      (eq-eqb (length (mostTimes js)) (length js) (length-most js))
-      (every-all (inRange (tableOf js) (mostTimes js)) (length js) most-in-range)
+      times-to (tableOf js) (mostTimes js)
+      (record {
+        each = length-most js;
+        low = λ i l. omega (arith, most-at js i, accepted js passed .limits i l .range);
+        high = λ i l. omega (arith, most-at js i);
+      })
 
   pub most-passed : machineCheck js (mostTimes js) ≡ Passed
   most-passed = times-passed js (mostTimes js) most-fit passed

@@ -18,7 +18,7 @@ use Rattle.machine.specs.declared.trace.Traced.{Traced}
 use Rattle.machine.specs.declared.trace.Traced.the-variants.{Entries, Refused as RefusedTrace}
 use Rattle.machine.specs.Traces.{row, rows, traced, traceOf, tracedIn}
 use Rattle.machine.proofs.Tracing.{rows-length, trace-written, traced-length}
-use Rattle.machine.proofs.Claims.{trace-within-twice}
+use Rattle.machine.proofs.Claims.{claims}
 use Rattle.report.specs.Texts.{linesText, traceHeader, entryRow, mostTimes, traceText}
 use Rattle.report.proofs.Lines.{lineText, lines-more}
 use Rattle.report.proofs.Wholes.{patched-start}
@@ -75,7 +75,7 @@ most-ran js accepts times is buffer room v =
     let large : 8 * length js ≤ length buffer = omega (arith, accepted js accepts .few) in
     let w = trace-written js most buffer passed large in
     let numbers-are = v .1 ∙ ap (λ (l : List ℕ). tracedIn js l buffer) is ∙ w .1 in
-    let twice = trace-within-twice js most passed in
+    let twice = claims js most passed .trace-within-twice in
     record {
       count = v .0 ∙ ap (λ (l : List ℕ). traceOf js l (length buffer)) is ∙ w .0;
       few = omega (arith, twice, accepted js accepts .few);

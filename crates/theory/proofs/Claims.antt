@@ -1,11 +1,12 @@
 -- The claims of specs/Claims, for every accepted set. Assumes nothing.
 use Prim.Native.Nat.{ℕ, suc, _≤_, _+_, _*_, _<_}
+use mathlib.Core.Bool.{true}
 use mathlib.Core.List.{List}
 use mathlib.Core.Path.{_≡_, ap, _∙_}
 use native.Mathlib.Omega.{arith}
 use lib.Dec.{lit<}
 use native.Mathlib.Nat.{zero-add}
-use Rattle.laws.specs.Words.{tabulate}
+use Rattle.laws.specs.Words.{numberAt, tabulate}
 use Rattle.laws.proofs.Tabulate.{length-tabulate, getD-tabulate}
 use Rattle.jobs.specs.declared.job.Job.{Job}
 use Rattle.jobs.specs.declared.refusal.Check.the-variants.{Passed}
@@ -15,7 +16,7 @@ use Rattle.jobs.proofs.Accepted.{accepted}
 use Rattle.theory.specs.Table.{Table, tableOf}
 use Rattle.theory.specs.Bounds.{boundAt, ert, cja, boundLimit}
 use Rattle.theory.specs.Rounds.{itr}
-use Rattle.theory.specs.Runs.{timeAt, Times, Releases}
+use Rattle.theory.specs.Runs.{timesFit, releasesFit}
 use Rattle.theory.specs.Claims.{Compared, Demand3, EveryAccepted}
 use Rattle.theory.proofs.WellFormed.{WellFormed}
 use Rattle.theory.proofs.AcceptedSets.{accepted-ordered, accepted-well, accepted-most, accepted-latest}
@@ -24,6 +25,7 @@ use Rattle.theory.proofs.Settling.{itr-settled, rounds-limit, settled-u
 use Rattle.theory.proofs.Least.{itr-below}
 use Rattle.theory.proofs.FewRounds.{rounds-few}
 use Rattle.theory.proofs.Soundness.{itr-holds, cja-holds, ert-holds}
+use Rattle.theory.proofs.Legal.{times-to, releases-to}
 use Rattle.theory.proofs.Existence.{run-of}
 use Rattle.theory.proofs.Limits.{ert-limit}
 use Rattle.theory.proofs.PartBounds.{part-no-later}
@@ -43,14 +45,14 @@ whole-demand t well =
     }
 
 -- all most times and the earliest releases
-choice : (t : Table) → WellFormed t → (times : List ℕ) × (release : ℕ → ℕ) × Times t times × Releases t release
+choice : (t : Table) → WellFormed t → (times : List ℕ) × (release : ℕ → ℕ) × (timesFit t times ≡ true) × (releasesFit t release ≡ true)
 choice t well =
-    let most : (u : ℕ) → u < t .count → timeAt (tabulate 0 (t .count) (t .most)) u ≡ t .most u
-    = (λ u l. unfold timeAt in getD-tabulate 0 (t .count) (t .most) 0 u l ∙ ap (t .most) (zero-add u)) in (
+    let most : (u : ℕ) → u < t .count → numberAt (tabulate 0 (t .count) (t .most)) u ≡ t .most u
+    = (λ u l. getD-tabulate 0 (t .count) (t .most) 0 u l ∙ ap (t .most) (zero-add u)) in (
       tabulate 0 (t .count) (t .most),
       t .earliest,
-      record { each = length-tabulate 0 (t .count) (t .most); low = λ u l. omega (arith, most u l, well .range u l); high = λ u l. omega (arith, most u l) },
-      record { early = λ u l. omega arith; late = λ u l. well .releases u l },
+      times-to t (tabulate 0 (t .count) (t .most)) (record { each = length-tabulate 0 (t .count) (t .most); low = λ u l. omega (arith, most u l, well .range u l); high = λ u l. omega (arith, most u l) }),
+      releases-to t (t .earliest) (record { early = λ u l. omega arith; late = λ u l. well .releases u l }),
     )
 
 ert-limited : (js : List Job) → checkOf js ≡ Passed → (i : ℕ) → i < tableOf js .count → boundAt (ert (tableOf js)) i < boundLimit

@@ -2,26 +2,28 @@
 --   Pick   what may run at n, seen from the first m jobs
 use Prim.Native.Nat.{ℕ, zero, suc, _≤_, _<_}
 use mathlib.Core.Path.{_≡_, refl, sym, _∙_}
+use mathlib.Core.Bool.{true}
 use mathlib.Core.List.{List, [], _∷_, _++_}
 use native.Mathlib.Omega.{arith}
 use lib.ListN.{length, length-append, List·getD-append}
 use lib.Seq.{getD-append-seam}
+use Rattle.laws.specs.Words.{numberAt}
 use Rattle.laws.proofs.Tests.{by-order, by-equal, by-last}
 use Rattle.theory.specs.Table.{Table}
-use Rattle.theory.specs.Runs.{Entry, idle, runs, entryAt, work, timeAt, Complete, PredecessorComplete, Ready, LegalEntry, Legal, Times, Releases, Run}
+use Rattle.theory.specs.Runs.{Entry, idle, runs, work, timesFit, releasesFit, isRun}
+use Rattle.theory.proofs.Legal.{entryAt, Complete, PredecessorComplete, Ready, LegalEntry, Legal, times-from, releases-from, run-to}
 
 entry-append : (r s : List Entry) (n : ℕ) → n < length r → entryAt (r ++ s) n ≡ entryAt r n
-unfolding entryAt
 entry-append r s n l = List·getD-append r s idle n l
 
-work-append : (r s : List Entry) (u n : ℕ) → n ≤ length r → work (r ++ s) u n ≡ work r u n
+work-append : (r s : List Entry) (u n : ℕ) → n ≤ length r → work (r ++ s) n u ≡ work r n u
 unfolding work
 work-append r s u zero l = refl
 work-append r s u (suc n) l = rw (entry-append r s n l, work-append r s u n (omega arith))
 
 module _ (t : Table) (release : ℕ → ℕ) (times : List ℕ) where
   -- ---- what is ready at n depends on the work at n alone
-  module _ (r s : List Entry) (n : ℕ) (same : (v : ℕ) → work r v n ≡ work s v n) where
+  module _ (r s : List Entry) (n : ℕ) (same : (v : ℕ) → work r n v ≡ work s n v) where
     predecessor-same : (u : ℕ) → PredecessorComplete t times r u n → PredecessorComplete t times s u n
     predecessor-same zero b = tt
     predecessor-same (suc v) b = λ q. sym (same v) ∙ b q
@@ -29,7 +31,7 @@ module _ (t : Table) (release : ℕ → ℕ) (times : List ℕ) where
     ready-same : (u : ℕ) → Ready t release times r u n → Ready t release times s u n
     ready-same u h = record { released = h .released; unfinished = λ c. h .unfinished (same u ∙ c); predecessor = predecessor-same u (h .predecessor) }
 
-  entry-same : (r s : List Entry) (n : ℕ) → ((v : ℕ) → work r v n ≡ work s v n) → (e : Entry) → LegalEntry t release times r n e
+  entry-same : (r s : List Entry) (n : ℕ) → ((v : ℕ) → work r n v ≡ work s n v) → (e : Entry) → LegalEntry t release times r n e
       → LegalEntry t release times s n e
   entry-same r s n q idle h = λ v vl w. h v vl (ready-same s r n (λ x. sym (q x)) v w)
   entry-same r s n q (runs u) h = (h .0, ready-same r s n q u (h .1), λ v vl w. h .2 v vl (ready-same s r n (λ x. sym (q x)) v w))
@@ -41,10 +43,10 @@ module _ (t : Table) (release : ℕ → ℕ) (times : List ℕ) where
       → Legal t release times (r ++ (e ∷ []))
   legal-more r e h next n l =
       let whole : List Entry = r ++ (e ∷ []) in
-      let same : (m v : ℕ) → m ≤ length r → work r v m ≡ work whole v m = (λ m v ml. sym (work-append r (e ∷ []) v m ml)) in
+      let same : (m v : ℕ) → m ≤ length r → work r m v ≡ work whole m v = (λ m v ml. sym (work-append r (e ∷ []) v m ml)) in
       by-last n (length r) (omega (arith, length-append r (e ∷ [])))
       (λ q.
-      let last : entryAt whole (length r) ≡ e = unfold entryAt in getD-append-seam r e [] idle in
+      let last : entryAt whole (length r) ≡ e = getD-append-seam r e [] idle in
       rw (q, last) (entry-same r whole (length r) (λ v. same (length r) v (omega arith)) e next))
       (λ nl. rw (entry-append r (e ∷ []) n nl) (entry-same r whole n (λ v. same n v (omega arith)) (entryAt r n) (h n nl)))
 
@@ -53,7 +55,7 @@ module _ (t : Table) (release : ℕ → ℕ) (times : List ℕ) where
   predecessor? r zero n = yes tt
   predecessor? r (suc v) n =
       by-equal (t .chain v) (t .chain (suc v))
-      (λ c. by-equal (work r v n) (timeAt times v) (λ d. yes (λ q. d)) (λ d. no (λ b. d (b c))))
+      (λ c. by-equal (work r n v) (numberAt times v) (λ d. yes (λ q. d)) (λ d. no (λ b. d (b c))))
       (λ c. yes (λ q. absurd (c q)))
 
   ready-by : (r : List Entry) (u n : ℕ) → release u ≤ n → (Complete times r u n → ⊥) → Dec (PredecessorComplete t times r u n)
@@ -64,7 +66,7 @@ module _ (t : Table) (release : ℕ → ℕ) (times : List ℕ) where
   ready? : (r : List Entry) (u n : ℕ) → Dec (Ready t release times r u n)
   ready? r u n =
       by-order (release u) n
-      (λ a. by-equal (work r u n) (timeAt times u) (λ b. no (λ h. h .unfinished b)) (λ b. ready-by r u n a b (predecessor? r u n)))
+      (λ a. by-equal (work r n u) (numberAt times u) (λ b. no (λ h. h .unfinished b)) (λ b. ready-by r u n a b (predecessor? r u n)))
       (λ a. no (λ h. absurd (omega (arith, h .released))))
 
   data Pick (r : List Entry) (n m : ℕ) : Type 0 where
@@ -95,7 +97,7 @@ module _ (t : Table) (release : ℕ → ℕ) (times : List ℕ) where
       let e = picked (h .0) (length (h .0)) (pick (h .0) (length (h .0)) (t .count)) in
       (h .0 ++ (e .0 ∷ []), omega (arith, h .1, length-append (h .0) (e .0 ∷ [])), legal-more (h .0) (e .0) (h .2) (e .1))
 
-  pub run-of : Releases t release → Times t times → (n : ℕ) → (run : List Entry) × (length run ≡ n) × Run t release times run
+  pub run-of : releasesFit t release ≡ true → timesFit t times ≡ true → (n : ℕ) → (run : List Entry) × (length run ≡ n) × (isRun t release times run ≡ true)
   run-of in-time in-range n =
       let h = legal-of n in
-      (h .0, h .1, record { releases = in-time; inRange = in-range; legal = h .2 })
+      (h .0, h .1, run-to (record { releases = releases-from t release in-time; inRange = times-from t times in-range; legal = h .2 }))

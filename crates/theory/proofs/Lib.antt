@@ -10,6 +10,7 @@ pub mod Monotone
 pub mod Settling
 pub mod Least
 pub mod FewRounds
+pub mod Legal
 pub mod Work
 pub mod Windows
 pub mod Soundness

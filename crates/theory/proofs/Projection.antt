@@ -11,10 +11,12 @@ use native.Mathlib.Omega.{arith}
 use lib.Dec.{eqb}
 use lib.ListN.{length, length-map, List·getD-map}
 use borrow.Author.Tests.{eqb-true, eq-eqb, ne-eqb}
+use Rattle.laws.specs.Words.{numberAt}
 use Rattle.laws.proofs.Tests.{by-test, by-equal, by-last, same-test}
 use Rattle.theory.specs.Table.{Table}
-use Rattle.theory.specs.Runs.{Entry, idle, runs, names, entryAt, work, timeAt, Complete, PredecessorComplete, Ready, LegalEntry, Legal}
+use Rattle.theory.specs.Runs.{Entry, idle, runs, names, work}
 use Rattle.theory.specs.Parts.{Part, LessUrgent}
+use Rattle.theory.proofs.Legal.{entryAt, Complete, PredecessorComplete, Ready, LegalEntry, Legal}
 use Rattle.theory.proofs.WellFormed.{Ordered}
 use Rattle.theory.proofs.Rules.{First, first-zero, first-after}
 use Rattle.theory.proofs.Work.{named}
@@ -73,7 +75,7 @@ module _ (t : Table) (times : List ℕ) (run : List Entry) (n : ℕ) where
 
 module _ {part t : Table} {place number : ℕ → ℕ} (h : Part part t place number) (o : Ordered t)
     (release partRelease : ℕ → ℕ) (sameRelease : (i : ℕ) → i < part .count → partRelease i ≡ release (place i))
-    (times partTimes : List ℕ) (sameTimes : (i : ℕ) → i < part .count → timeAt partTimes i ≡ timeAt times (place i)) (run : List Entry) where
+    (times partTimes : List ℕ) (sameTimes : (i : ℕ) → i < part .count → numberAt partTimes i ≡ numberAt times (place i)) (run : List Entry) where
   abbrev partRun : List Entry
   partRun = project place (part .count) run
 
@@ -91,11 +93,11 @@ module _ {part t : Table} {place number : ℕ → ℕ} (h : Part part t place nu
       (λ q. rw (eqb-true u (place i) q, kept i l) (eq-eqb i i refl))
 
   entry-same : (n : ℕ) → entryAt partRun n ≡ projected place (part .count) (entryAt run n)
-  unfolding entryAt project projected
+  unfolding project projected
   entry-same n = List·getD-map (projected place (part .count)) run n idle
 
   -- the work of a kept job is the same in both
-  pub work-same : (i n : ℕ) → i < part .count → work partRun i n ≡ work run (place i) n
+  pub work-same : (i n : ℕ) → i < part .count → work partRun n i ≡ work run n (place i)
   unfolding work
   work-same i zero l = refl
   work-same i (suc n) l = rw (entry-same n, names-same (entryAt run n) i l, work-same i n l)

@@ -8,14 +8,15 @@ use mathlib.Core.Bool.{true}
 use mathlib.Core.List.{List}
 use native.Mathlib.Omega.{arith}
 use lib.ListN.{length}
-use Rattle.laws.specs.Words.{sumBelow}
+use Rattle.laws.specs.Words.{sumBelow, numberAt}
 use Rattle.laws.proofs.Tests.{by-order, by-equal}
 use Rattle.theory.specs.Table.{Table}
 use Rattle.theory.specs.Interference.{largestBlock, interference}
 use Rattle.theory.specs.Bounds.{boundAt, demand, lowest, pairBound, cja, ert}
 use Rattle.theory.specs.Rounds.{overlap, round, itr}
-use Rattle.theory.specs.Runs.{Entry, work, timeAt, Complete, PredecessorComplete, Run}
+use Rattle.theory.specs.Runs.{Entry, work}
 use Rattle.theory.specs.Claims.{AtMost, Holds}
+use Rattle.theory.proofs.Legal.{Complete, PredecessorComplete, Run, complete-eq, eq-complete, run-from}
 use Rattle.theory.proofs.WellFormed.{WellFormed, chain-between}
 use Rattle.theory.proofs.Rules.{counted, pair-below, at-cja}
 use Rattle.theory.proofs.Chains.{chainSum, chain-most, own-and-others, own-sum}
@@ -68,7 +69,7 @@ module _ {t : Table} (well : WellFormed t) {release : ℕ → ℕ} {times : List
     own-less : workIn run start bound j < t .most j
     unfolding workIn
     own-less =
-        let ne : work run j bound ≢ timeAt times j = window .late in
+        let ne : work run bound j ≢ numberAt times j = window .late in
         omega (arith, work-most well is j bound, is .inRange .high j (window .inside))
 
     own-part : chainSum t (workIn run start bound) (t .chain j) (t .count) < demand t head j
@@ -169,18 +170,20 @@ module _ {t : Table} (well : WellFormed t) {release : ℕ → ℕ} {times : List
       → Complete times run j (boundAt bounds j)
   complete-by bounds fixed zero j jl less long = absurd (omega arith)
   complete-by bounds fixed (suc m) j jl less long =
-      by-equal (work run j (boundAt bounds j)) (timeAt times j)
+      by-equal (work run (boundAt bounds j) j) (numberAt times j)
       (λ done. done)
       (λ late.
       absurd (not-late (record { inside = jl; long = long; late = late; from = critical well is j }) bounds refl (λ u ul l. complete-by bounds fixed m u ul (omega arith) (omega arith)) fixed))
 
 module _ (t : Table) (well : WellFormed t) where
   pub fixed-holds : (bounds : List ℕ) → round t bounds ≡ bounds → Holds t bounds
-  fixed-holds bounds fixed j jl release times run is long = complete-by well is bounds fixed (suc (boundAt bounds j)) j jl (omega arith) long
+  fixed-holds bounds fixed j jl release times run is long =
+      eq-complete times (work run (boundAt bounds j)) j (complete-by well (run-from is) bounds fixed (suc (boundAt bounds j)) j jl (omega arith) long)
 
   pub later-holds : (a b : List ℕ) → AtMost (t .count) a b → Holds t a → Holds t b
   later-holds a b le h j jl release times run is long =
-      complete-stays well is j (boundAt a j) (boundAt b j) (le j jl) (h j jl release times run is (omega (arith, le j jl)))
+      let before = complete-eq times (work run (boundAt a j)) j (h j jl release times run is (omega (arith, le j jl))) in
+      eq-complete times (work run (boundAt b j)) j (complete-stays well (run-from is) j (boundAt a j) (boundAt b j) (le j jl) before)
 
   pub itr-holds : Holds t (itr t .bounds)
   itr-holds = fixed-holds (itr t .bounds) (itr-fixed t)

@@ -12,18 +12,19 @@ use mathlib.Core.List.{List}
 use native.Mathlib.Omega.{arith}
 use native.Mathlib.Nat.{add-zero, add-suc}
 use lib.ListN.{length}
-use Rattle.laws.specs.Words.{sumBelow}
+use Rattle.laws.specs.Words.{sumBelow, numberAt}
 use Rattle.laws.proofs.Tests.{by-order, by-equal, by-last}
 use Rattle.laws.proofs.Sums.{sum-zero, sum-bump}
 use Rattle.theory.specs.Table.{Table}
 use Rattle.theory.specs.Bounds.{lowest}
-use Rattle.theory.specs.Runs.{Entry, idle, runs, entryAt, work, timeAt, Complete, PredecessorComplete, Ready, LegalEntry, Run}
+use Rattle.theory.specs.Runs.{Entry, idle, runs, work}
+use Rattle.theory.proofs.Legal.{entryAt, Complete, PredecessorComplete, Ready, LegalEntry, Run}
 use Rattle.theory.proofs.WellFormed.{WellFormed}
 use Rattle.theory.proofs.Rules.{lowest-le}
 use Rattle.theory.proofs.Work.{same-job, ran, work-here, work-away, work-mono, complete-stays}
 
 unfoldable pub workIn : List Entry → ℕ → ℕ → ℕ → ℕ
-workIn run a b u = work run u b - work run u a
+workIn run a b u = work run b u - work run a u
 
 -- It is first in its chain or its predecessor is complete at its release, and of the later ones up to j none is so.
 pub record Critical (t : Table) (release : ℕ → ℕ) (times : List ℕ) (run : List Entry) (j : ℕ) : Type 0 where
@@ -64,7 +65,7 @@ module _ {t : Table} (well : WellFormed t) {release : ℕ → ℕ} {times : List
   critical (suc i) =
       by-equal (t .chain i) (t .chain (suc i))
       (λ e.
-      by-equal (work run i (release (suc i))) (timeAt times i)
+      by-equal (work run (release (suc i)) i) (numberAt times i)
       (λ done. critical-here (suc i) (λ q. done))
       (λ late.
       let z = critical i in
@@ -90,7 +91,7 @@ module _ {t : Table} (well : WellFormed t) {release : ℕ → ℕ} {times : List
       let q : i ≡ j = omega arith in
       record { job = i; from = ki; to = omega arith; ready = record { released = ri; unfinished = rw q late; predecessor = b } }
   waiting j z n late (suc d) i e ki ri b =
-      by-equal (work run i n) (timeAt times i)
+      by-equal (work run n i) (numberAt times i)
       (λ done.
       by-order (release (suc i)) n
       (λ l. waiting j z n late d (suc i) (omega arith) (omega arith) l (λ q. done))
@@ -129,7 +130,7 @@ module _ {t : Table} (well : WellFormed t) {release : ℕ → ℕ} {times : List
         sum-zero
         (t .count)
         (workIn run (release (window .from .job)) (release (window .from .job) + 0))
-        (λ u ul. omega (arith, ap (λ (n : ℕ). work run u n) (add-zero (release (window .from .job)))))
+        (λ u ul. omega (arith, ap (λ (n : ℕ). work run n u) (add-zero (release (window .from .job)))))
     ticks (suc d) l =
         let s : ℕ = release (window .from .job) in
         let b = busy (s + d) (omega arith) (omega arith) in

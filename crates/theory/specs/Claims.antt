@@ -1,7 +1,7 @@
 -- What is proved of every accepted set; proofs/Claims has the proof of all. Document 01, "The runs of demand 3". Assumes nothing.
-use Rattle.laws.specs.Words.{ℕ, zero, suc, _≤_, _<_, max, _≡_, List, length}
+use Rattle.laws.specs.Words.{ℕ, zero, suc, _≤_, _<_, max, _≡_, true, List, length}
 use Rattle.jobs.specs.{declared.job.Job.Job, declared.refusal.Check.Check, Checks.checkOf}
-use Rattle.theory.specs.{Table.Table, Table.tableOf, Bounds.boundAt, Bounds.ert, Bounds.cja, Bounds.boundLimit, Rounds.round, Rounds.after, Rounds.Answer, Rounds.roundLimit, Rounds.itr, Runs.Entry, Runs.Times, Runs.Releases, Runs.Run, Runs.CompleteBy, Parts.Part, Parts.LessUrgent}
+use Rattle.theory.specs.{Table.Table, Table.tableOf, Bounds.boundAt, Bounds.ert, Bounds.cja, Bounds.boundLimit, Rounds.round, Rounds.after, Rounds.Answer, Rounds.roundLimit, Rounds.itr, Runs.Entry, Runs.timesFit, Runs.releasesFit, Runs.isRun, Runs.CompleteBy, Parts.Part, Parts.LessUrgent}
 
 -- Each job is complete no later than its bound.
 abbrev pub Holds : Table → List ℕ → Type 0
@@ -44,9 +44,10 @@ pub record Claims (t : Table) : Type 0 where
   -- No other answer is settled, so that the count less one, or any other number, is ruled out.
   pub rounds-determined : (answer : Answer) → Settled t answer → answer ≡ itr t
   -- Some running times and releases are in range.
-  pub choices-exist : (times : List ℕ) × (release : ℕ → ℕ) × Times t times × Releases t release
+  pub choices-exist : (times : List ℕ) × (release : ℕ → ℕ) × (timesFit t times ≡ true) × (releasesFit t release ≡ true)
   -- With any such choice there is a legal run of every length.
-  pub runs-exist : (r : ℕ → ℕ) (x : List ℕ) → Releases t r → Times t x → (n : ℕ) → (run : List Entry) × (length run ≡ n) × Run t r x run
+  pub runs-exist : (release : ℕ → ℕ) (times : List ℕ) → releasesFit t release ≡ true → timesFit t times ≡ true
+      → (n : ℕ) → (run : List Entry) × (length run ≡ n) × (isRun t release times run ≡ true)
   -- All bounds are below the limit: those of ERT, and so the others, which are no larger.
   pub bounds-limited : (i : ℕ) → i < t .count → boundAt (ert t) i < boundLimit
   -- There are at most as many rounds as jobs, and one where there is no job.

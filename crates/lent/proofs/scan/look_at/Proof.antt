@@ -1,7 +1,7 @@
 -- `look_at` meets its contract. Assumes nothing.
 use mathlib.Core.Path.{refl}
 use borrow.Author.Needs.{needs}
-use Rattle.machine.specs.States.{complete}
+use Rattle.theory.specs.Runs.{complete}
 use Rattle.machine.proofs.Scanned.{scanned}
 use Rattle.lent.proofs.scan.look_at.Statement.{statement}
 use Rattle.lent.proofs.scan.look_at.Tie as tie

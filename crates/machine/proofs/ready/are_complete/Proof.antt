@@ -5,20 +5,20 @@ use mathlib.Core.Bool.{true}
 use native.Mathlib.Omega.{arith}
 use borrow.Author.Tests.{not-true, not-false}
 use borrow.Author.Needs.{needs}
-use Rattle.laws.specs.Words.{everyBelow}
-use Rattle.machine.specs.States.{complete}
+use Rattle.laws.specs.Words.{everyBelow, numberAt}
 use Rattle.laws.proofs.Every.{every-none, every-next, every-not}
+use Rattle.theory.specs.Runs.{complete}
 use Rattle.machine.proofs.ready.are_complete.Statement.{statement}
 use Rattle.machine.proofs.ready.are_complete.Tie as tie
 
 abbrev Inv-loop : tie.InvT-loop
-Inv-loop count times work n₀ n = (n ≤ count) × (everyBelow n (complete times work) ≡ true)
+Inv-loop count times work n₀ n = (n ≤ count) × (everyBelow n (complete times (numberAt work)) ≡ true)
 
 abbrev μ-loop : tie.MeasureT-loop
 μ-loop count times work n₀ n = count - n
 
 loop-holds : tie.Need-loop-holds Inv-loop μ-loop
-loop-holds c = (omega arith, every-none (complete (c .before .args .times .now) (c .before .args .work .now)))
+loop-holds c = (omega arith, every-none (complete (c .before .args .times .now) (numberAt (c .before .args .work .now))))
 
 is-complete-requires : tie.Need-is-complete-requires Inv-loop μ-loop
 is-complete-requires c κs = search needs

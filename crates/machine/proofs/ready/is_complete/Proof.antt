@@ -1,6 +1,6 @@
 -- `is_complete` meets its contract. Assumes nothing.
 use borrow.Author.Needs.{needs}
-use Rattle.machine.specs.States.{complete}
+use Rattle.theory.specs.Runs.{complete}
 use Rattle.machine.proofs.ready.is_complete.Statement.{statement}
 use Rattle.machine.proofs.ready.is_complete.Tie as tie
 

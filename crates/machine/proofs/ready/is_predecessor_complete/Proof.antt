@@ -2,7 +2,8 @@
 use mathlib.Core.Path.{sym, _∙_}
 use native.Mathlib.Omega.{arith}
 use borrow.Author.Needs.{needs}
-use Rattle.machine.proofs.Readiness.{predecessor-first, predecessor-apart, predecessor-of}
+use Rattle.theory.proofs.Legal.{predecessor-first}
+use Rattle.machine.proofs.Readiness.{predecessor-apart, predecessor-of}
 use Rattle.machine.proofs.ready.is_predecessor_complete.Statement.{statement}
 use Rattle.machine.proofs.ready.is_predecessor_complete.Tie as tie
 

@@ -3,7 +3,8 @@ use mathlib.Core.List.{[]}
 use mathlib.Core.Path.{sym, _∙_}
 use borrow.Author.Tests.{le-leb}
 use borrow.Author.Needs.{needs}
-use Rattle.machine.specs.States.{ready}
+use Rattle.laws.specs.Words.{numberAt}
+use Rattle.theory.specs.Runs.{ready}
 use Rattle.machine.proofs.Readiness.{early-not-ready, predecessor-seen}
 use Rattle.machine.proofs.ready.is_ready.Statement.{statement}
 use Rattle.machine.proofs.ready.is_ready.Tie as tie
@@ -15,7 +16,7 @@ element-copy-out-if1 : tie.Need-element-copy-out-if1
 element-copy-out-if1 c = search needs
 
 returns : tie.Need-returns
-returns c = sym (early-not-ready _ _ _ _ (c .if1 .taken))
+returns c = sym (early-not-ready _ _ _ _ _ _ (c .if1 .taken))
 
 is-complete-requires : tie.Need-is-complete-requires
 is-complete-requires c κs = search needs
@@ -29,7 +30,7 @@ is-predecessor-complete-requires c κs = search needs
 
 returns-3 : tie.Need-returns-3
 unfolding ready
-returns-3 c = let a = c .before .before .before .before .before .before .args in simp (le-leb _ _ (c .before .before .before .if1 .left), sym (c .before .before .is-complete .ensures) ∙ c .before .if2 .left) (c .is-predecessor-complete .ensures ∙ predecessor-seen (a .chain .now) [] (a .release .now) (a .times .now) (a .work .now) (a .at))
+returns-3 c = let a = c .before .before .before .before .before .before .args in simp (le-leb _ _ (c .before .before .before .if1 .left), sym (c .before .before .is-complete .ensures) ∙ c .before .if2 .left) (c .is-predecessor-complete .ensures ∙ predecessor-seen (a .chain .now) [] (a .release .now) (a .times .now) (numberAt (a .work .now)) (a .at))
 
 pub is-ready-spec : {M : Type 1} → statement M
 is-ready-spec =

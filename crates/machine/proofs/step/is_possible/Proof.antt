@@ -3,8 +3,9 @@ use mathlib.Core.List.{[]}
 use mathlib.Core.Path.{_≡_, sym, _∙_}
 use borrow.Author.Tests.{lt-leb, le-leb, eq-eqb, ne-eqb, not-true, not-false}
 use borrow.Author.Needs.{needs}
+use Rattle.laws.specs.Words.{numberAt}
+use Rattle.theory.specs.Runs.{predecessorComplete}
 use Rattle.theory.proofs.Columns.{seen}
-use Rattle.machine.specs.States.{predecessorComplete}
 use Rattle.machine.specs.Steps.{possible}
 use Rattle.machine.proofs.Readiness.{predecessor-seen}
 use Rattle.machine.proofs.step.is_possible.Statement.{statement}
@@ -43,8 +44,8 @@ returns-3 : tie.Need-returns-3
 unfolding possible
 returns-3 c =
     let a = c .before .before .before .before .before .before .before .before .args in
-    let e : c .before .is-predecessor-complete .result ≡ predecessorComplete (seen (a .chain .now) [] []) (a .times .now) (a .work .now) (a .at) = c .before .is-predecessor-complete .ensures in
-    simp (le-leb _ _ (c .before .before .before .before .if1 .left), ne-eqb _ _ (c .before .before .if2 .left), sym (predecessor-seen (a .chain .now) [] (a .release .now) (a .times .now) (a .work .now) (a .at)) ∙ sym e ∙ not-true _ (c .if3 .taken))
+    let e : c .before .is-predecessor-complete .result ≡ predecessorComplete (seen (a .chain .now) [] []) (a .times .now) (numberAt (a .work .now)) (a .at) = c .before .is-predecessor-complete .ensures in
+    simp (le-leb _ _ (c .before .before .before .before .if1 .left), ne-eqb _ _ (c .before .before .if2 .left), sym (predecessor-seen (a .chain .now) [] (a .release .now) (a .times .now) (numberAt (a .work .now)) (a .at)) ∙ sym e ∙ not-true _ (c .if3 .taken))
 
 mul-result : tie.Need-mul-result
 mul-result c = search needs
@@ -54,7 +55,7 @@ element-copy-out-result c = search needs
 
 returns-4 : tie.Need-returns-4
 unfolding possible
-returns-4 c = let a = c .before .before .before .before .before .before .before .before .before .args in simp (le-leb _ _ (c .before .before .before .before .before .if1 .left), ne-eqb _ _ (c .before .before .before .if2 .left), sym (predecessor-seen (a .chain .now) [] (a .release .now) (a .times .now) (a .work .now) (a .at)) ∙ sym (c .before .before .is-predecessor-complete .ensures) ∙ not-false _ (c .before .if3 .left))
+returns-4 c = let a = c .before .before .before .before .before .before .before .before .before .args in simp (le-leb _ _ (c .before .before .before .before .before .if1 .left), ne-eqb _ _ (c .before .before .before .if2 .left), sym (predecessor-seen (a .chain .now) [] (a .release .now) (a .times .now) (numberAt (a .work .now)) (a .at)) ∙ sym (c .before .before .is-predecessor-complete .ensures) ∙ not-false _ (c .before .if3 .left))
 
 pub is-possible-spec : {M : Type 1} → statement M
 is-possible-spec =

@@ -7,9 +7,8 @@ use borrow.Author.Needs.{needs}
 use Rattle.jobs.specs.Jobs.{jobsOf}
 use Rattle.theory.specs.Table.{tableOf}
 use Rattle.laws.specs.Words.{everyBelow}
-use Rattle.machine.specs.Times.{inRange}
 use Rattle.laws.proofs.Every.{every-none, every-next}
-use Rattle.machine.proofs.RunningTimes.{fit-count, fit-below, fit-above, fit-here, fit-all}
+use Rattle.machine.proofs.RunningTimes.{inRange, fit-count, fit-below, fit-above, fit-here, fit-all}
 use Rattle.machine.proofs.times.are_fitting.Statement.{statement}
 use Rattle.machine.proofs.times.are_fitting.Tie as tie
 
