@@ -16,8 +16,7 @@ use Rattle.jobs.specs.Checks.{checkOf}
 use Rattle.jobs.proofs.Accepted.{Accepted, accepted}
 use Rattle.jobs.proofs.Sets.{length-jobs}
 use Rattle.theory.specs.Table.{Table, tableOf}
-use Rattle.theory.specs.Bounds.{ert, cja}
-use Rattle.theory.specs.Rounds.{itr}
+use Rattle.theory.specs.Bounds.{ert, cja, itr}
 use Rattle.theory.proofs.Releases.{earliest-latest}
 use Rattle.theory.proofs.AcceptedSets.{accepted-ordered, accepted-most, accepted-latest}
 use Rattle.theory.proofs.Agreement.{Agree, SameAnswers, agree-same}

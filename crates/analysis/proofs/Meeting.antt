@@ -7,7 +7,7 @@ use native.Mathlib.Omega.{arith}
 use lib.Dec.{leb}
 use lib.ListN.{length}
 use borrow.Author.Tests.{le-leb, lt-leb}
-use Rattle.laws.specs.Words.{everyBelow, padded}
+use Rattle.laws.specs.Words.{everyBelow, padded, numberAt}
 use Rattle.laws.proofs.Every.{every-next, every-not, every-ext}
 use Rattle.laws.proofs.Lists.{getD-padded}
 use Rattle.jobs.specs.declared.job.Job.{Job}
@@ -15,16 +15,15 @@ use Rattle.jobs.specs.declared.set.JobSet.{JobSet}
 use Rattle.jobs.specs.Limits.{maxJobs}
 use Rattle.jobs.specs.Jobs.{jobsOf, jobAt}
 use Rattle.jobs.proofs.Sets.{length-jobs}
-use Rattle.theory.specs.Bounds.{boundAt}
-use Rattle.theory.specs.Verdicts.{meets}
+use Rattle.theory.specs.Bounds.{meets}
 
 -- the bound of the job at a place is at or before its deadline
 abbrev pub metAt : List Job → List ℕ → ℕ → Bool
-metAt js bounds i = leb (boundAt bounds i) (jobAt js i .deadline)
+metAt js bounds i = leb (numberAt bounds i) (jobAt js i .deadline)
 
 -- the test of each job of a set
 module _ (set : JobSet) (bounds : List ℕ) where
-  pub meets-more : (n : ℕ) → everyBelow n (metAt (jobsOf set) bounds) ≡ true → boundAt bounds n ≤ jobAt (jobsOf set) n .deadline
+  pub meets-more : (n : ℕ) → everyBelow n (metAt (jobsOf set) bounds) ≡ true → numberAt bounds n ≤ jobAt (jobsOf set) n .deadline
       → everyBelow (n + 1) (metAt (jobsOf set) bounds) ≡ true
   meets-more n h due = every-next _ n h (le-leb _ _ due)
 
@@ -32,7 +31,7 @@ module _ (set : JobSet) (bounds : List ℕ) where
   unfolding meets
   meets-all n e h = rw (length-jobs set ∙ sym e) h
 
-  pub meets-not : (i : ℕ) → i < set .count → jobAt (jobsOf set) i .deadline < boundAt bounds i → meets (jobsOf set) bounds ≡ false
+  pub meets-not : (i : ℕ) → i < set .count → jobAt (jobsOf set) i .deadline < numberAt bounds i → meets (jobsOf set) bounds ≡ false
   unfolding meets
   meets-not i l late = every-not _ (length (jobsOf set)) i (omega (arith, length-jobs set)) (lt-leb _ _ late)
 

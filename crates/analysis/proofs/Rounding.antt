@@ -18,8 +18,7 @@ use Rattle.laws.proofs.Lists.{getD-padded}
 use Rattle.jobs.specs.Limits.{maxJobs}
 use Rattle.jobs.specs.declared.refusal.Check.the-variants.{Passed}
 use Rattle.theory.specs.Table.{Table}
-use Rattle.theory.specs.Bounds.{cjaWith}
-use Rattle.theory.specs.Rounds.{overlap, round, after, Answer, roundLimit, itr}
+use Rattle.theory.specs.Bounds.{cjaWith, overlap, round, after, Answer, roundLimit, itr}
 use Rattle.theory.specs.Claims.{Repeats, Settled}
 use Rattle.theory.proofs.Rules.{length-after}
 use Rattle.theory.proofs.Settling.{itr-settled, rounds-limit, settled-unique}

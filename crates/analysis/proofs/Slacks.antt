@@ -10,7 +10,7 @@ use lib.IntN.{ℤ, pos}
 use lib.ListN.{length, getD, set, replicate}
 use mir.Syntax.{w64}
 use mir.Val.{toZ, ofZ}
-use Rattle.laws.specs.Words.{tabulate, padded}
+use Rattle.laws.specs.Words.{tabulate, padded, numberAt}
 use Rattle.laws.proofs.Lists.{getD-padded}
 use Rattle.laws.proofs.Filling.{filled-none, filled-next}
 use Rattle.jobs.specs.declared.job.Job.{Job}
@@ -20,14 +20,12 @@ use Rattle.jobs.specs.Checks.{checkOf}
 use Rattle.jobs.specs.Jobs.{jobAt}
 use Rattle.jobs.proofs.Accepted.{accepted}
 use Rattle.theory.specs.Table.{tableOf}
-use Rattle.theory.specs.Bounds.{boundAt, boundLimit}
-use Rattle.theory.specs.Rounds.{itr}
-use Rattle.theory.specs.Verdicts.{slack, slacks}
+use Rattle.theory.specs.Bounds.{boundLimit, itr, slack, slacks}
 use Rattle.theory.proofs.Claims.{all-limited}
 use Rattle.analysis.proofs.Differences.{difference-kept}
 
 unfoldable pub slackAt : List Job → ℕ → ℤ
-slackAt js i = slack (jobAt js i .deadline) (boundAt (itr (tableOf js) .bounds) i)
+slackAt js i = slack (jobAt js i .deadline) (numberAt (itr (tableOf js) .bounds) i)
 
 pub record Slacked (js : List Job) (i : ℕ) (out : List ℤ) : Type 0 where
   pub inside : i ≤ length js
@@ -45,7 +43,7 @@ slacked-all js i out l h =
 -- the job at a place, and the bounds as they are padded
 module _ (js : List Job) (passed : checkOf js ≡ Passed) (bounds : List ℕ) (e : bounds ≡ padded maxJobs 0 (itr (tableOf js) .bounds))
     (i : ℕ) (l : i < length js) (job : Job) (here : jobAt js i ≡ job) where
-  bound-is : getD bounds i 0 ≡ boundAt (itr (tableOf js) .bounds) i
+  bound-is : getD bounds i 0 ≡ numberAt (itr (tableOf js) .bounds) i
   bound-is = ap (λ (b : List ℕ). getD b i 0) e ∙ getD-padded maxJobs 0 (itr (tableOf js) .bounds) i
 
   pub slack-limits : (job .deadline ≤ maxDeadline) × (getD bounds i 0 ≤ boundLimit)

@@ -2,7 +2,7 @@
 use Rattle.laws.specs.Words.{ℕ, cond, List, [], eqb, pos, padded}
 use Rattle.jobs.specs.declared.{job.Job.Job, set.JobSet.JobSet, refusal.Refusal.Refusal, refusal.Check.Check}
 use Rattle.jobs.specs.{Limits.maxJobs, Refusals.onPass, Jobs.jobsOf, Jobs.setOf, Checks.checkOf, Joins.withChain, Joins.joinCheck}
-use Rattle.theory.specs.{Table.tableOf, Bounds.ert, Bounds.cja, Rounds.itr, Verdicts.slacks, Verdicts.meets}
+use Rattle.theory.specs.{Table.tableOf, Bounds.ert, Bounds.cja, Bounds.itr, Bounds.slacks, Bounds.meets}
 use Rattle.analysis.specs.declared.{answer.Bounds.Bounds, answer.Itr.Itr, answer.Slacks.Slacks, answer.Figures.Figures, answer.Verdict.Verdict, answer.Admission.Admission}
 
 -- A figure of each job in an answer; none on a refusal.

@@ -1,6 +1,6 @@
 // How long the jobs of other chains can hold up a pair, chain by chain.
 ghost use Rattle.laws.specs.Words.{_≡_};
-ghost use Rattle.theory.specs.Interference.{interference as Theory·interference};
+ghost use Rattle.theory.specs.Bounds.{interference as Theory·interference};
 ghost use Rattle.theory.proofs.{Columns.lent, Columns.Fit, Endings.Ended, Weights.spanned};
 use crate::block::share;
 use jobs::set::JobSet;

@@ -1,7 +1,7 @@
 // The ITR bounds, and the number of rounds that they take.
 ghost use Rattle.laws.specs.Words.{_≡_, _≤_, sameUpTo, padded};
 ghost use Rattle.jobs.specs.{Limits.maxJobs, Jobs.jobsOf, Checks.checkOf};
-ghost use Rattle.theory.specs.{Table.tableOf, Rounds.itrStart, Rounds.itr as Theory·itr};
+ghost use Rattle.theory.specs.{Table.tableOf, Bounds.itrStart, Bounds.itr as Theory·itr};
 ghost use Rattle.analysis.specs.Answers.{itrOf};
 ghost use Rattle.theory.proofs.{Columns.lent, Columns.Fit, Endings.Ended};
 use crate::answer::Itr;

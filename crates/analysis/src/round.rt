@@ -1,7 +1,7 @@
 // One round: CJA for all jobs, where only jobs whose spans overlap count.
 ghost use Rattle.laws.specs.Words.{_≡_, replicate, padded};
 ghost use Rattle.jobs.specs.Limits.{maxJobs};
-ghost use Rattle.theory.specs.Rounds.{round as Theory·round};
+ghost use Rattle.theory.specs.Bounds.{round as Theory·round};
 ghost use Rattle.theory.proofs.{Columns.lent, Columns.Fit, Endings.Ended};
 use crate::pair::largest_pair;
 use jobs::set::JobSet;

@@ -2,9 +2,7 @@
 ghost use Rattle.laws.specs.Words.{_≡_, _≤_, pos, padded};
 ghost use Rattle.jobs.specs.{Limits.maxJobs, Limits.maxDeadline, Jobs.jobsOf, Checks.checkOf};
 ghost use Rattle.theory.specs.Table.{tableOf};
-ghost use Rattle.theory.specs.Bounds.{boundLimit};
-ghost use Rattle.theory.specs.Rounds.{itr as Theory·itr};
-ghost use Rattle.theory.specs.Verdicts.{slack as Theory·slack, slacks as Theory·slacks};
+ghost use Rattle.theory.specs.Bounds.{boundLimit, itr as Theory·itr, slack as Theory·slack, slacks as Theory·slacks};
 ghost use Rattle.analysis.specs.Answers.{slacksOf};
 use crate::answer::Slacks;
 use crate::itr::accepted_itr;

@@ -1,7 +1,7 @@
 // The verdict: whether each job's bound is at or before its deadline.
 ghost use Rattle.laws.specs.Words.{_≡_, cond, _≤_};
 ghost use Rattle.jobs.specs.{Limits.maxJobs, Jobs.jobsOf, Checks.checkOf};
-ghost use Rattle.theory.specs.Verdicts.{meets as Theory·meets};
+ghost use Rattle.theory.specs.Bounds.{meets as Theory·meets};
 ghost use Rattle.analysis.specs.Answers.{verdictBy, verdictOf};
 use crate::answer::Verdict;
 use crate::cja::accepted_cja;

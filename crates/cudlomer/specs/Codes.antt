@@ -2,7 +2,7 @@
 use Rattle.laws.specs.Words.{ℕ, List, ℤ, pos, negℤ}
 use Rattle.jobs.specs.{declared.refusal.Refusal.Refusal, Refusals.numberOf}
 use Rattle.table.specs.Tables.{onTable}
-use Rattle.theory.specs.{Table.tableOf, Rounds.itr}
+use Rattle.theory.specs.{Table.tableOf, Bounds.itr}
 use Rattle.analysis.specs.{declared.answer.Verdict.Verdict, Answers.verdictBy}
 use Rattle.report.specs.declared.written.Written.{Written}
 

@@ -1,7 +1,7 @@
 -- What is proved of decimal digits, for numbers of any size; proofs/Claims.antt has the proof of all. Assumes nothing.
-use Rattle.laws.specs.Words.{ℕ, suc, _-_, _^_, _≤_, _<_, false, List, [], _++_, _≡_}
-use Rattle.decimal.specs.{Digits.digitCount, Digits.decimal, Digits.valueFrom, Fields.maxDigits, Fields.digitRun, Fields.leadingZero, Fields.fieldOf}
+use Rattle.laws.specs.Words.{ℕ, suc, _-_, _^_, _≤_, _<_, _≡_, false, List, [], _++_}
 use Rattle.decimal.specs.declared.field.Field.{Field}
+use Rattle.decimal.specs.{Digits.digitCount, Digits.decimal, Digits.valueFrom, Fields.maxDigits, Fields.digitRun, Fields.leadingZero, Fields.fieldOf}
 
 -- One field for each theorem on digits, counts and reading back.
 pub record Claims : Type 0 where

@@ -1,5 +1,5 @@
 -- The checks of a record, and of a set: 4 to 6 record by record, then 7. Document 01, numbers 4 to 7 and what follows them. Assumes nothing.
-use Rattle.laws.specs.Words.{ℕ, _+_, Bool, cond, _&&_, List, [], _∷_, _++_, length, leb, ltb, eqb, lastOf}
+use Rattle.laws.specs.Words.{ℕ, _+_, Bool, cond, _&&_, List, [], _∷_, _++_, leb, ltb, eqb, length, lastOf}
 use Rattle.jobs.specs.declared.{job.Job.Job, refusal.Check.Check, refusal.Refusal.Refusal}
 use Rattle.jobs.specs.{Limits.maxJobs, Limits.maxChains, Limits.maxRelease, Limits.maxPriority, Limits.maxTime, Limits.maxDeadline, Refusals.unless, Refusals.andThen, Jobs.noJob}
 

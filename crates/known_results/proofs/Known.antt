@@ -9,23 +9,18 @@ use mathlib.Core.List.{List, [], _∷_, map}
 use native.Mathlib.Omega.{arith}
 use lib.IntN.{pos}
 use lib.ListN.{length, getD}
-use Rattle.laws.specs.Words.{sumBelow, tabulate, greatest, lastOf, everyBelow, sameUpTo}
+use Rattle.laws.specs.Words.{sumBelow, tabulate, greatest, lastOf, everyBelow, sameUpTo, numberAt}
 use Rattle.jobs.specs.declared.job.Job.{Job}
 use Rattle.jobs.specs.declared.refusal.Check.the-variants.{Passed}
 use Rattle.jobs.specs.Checks.{isNext, inLimits, recordCheck, recordsCheck, checkOf}
 use Rattle.jobs.specs.Jobs.{jobAt, urgencyOf}
 use Rattle.theory.specs.Table.{joined, effectiveRelease, tableOf}
-use Rattle.theory.specs.Interference.{openBlock, largestBlock, interference}
-use Rattle.theory.specs.Bounds.{ertRule, interferenceAt, ert, demand, lowest, pairBound, largestPair, cjaWith, cja, boundAt}
-use Rattle.theory.specs.Rounds.{itrStart, overlap, round, settle, roundLimit, itr}
-use Rattle.theory.specs.Verdicts.{slack, slacks, meets}
+use Rattle.theory.specs.Bounds.{openBlock, largestBlock, interference, ertRule, interferenceAt, ert, demand, lowest, pairBound, largestPair, cjaWith, cja, itrStart, overlap, round, settle, roundLimit, itr, slack, slacks, meets}
 use Rattle.theory.specs.Runs.{complete, predecessorComplete, ready, timesFit}
 use Rattle.theory.specs.Claims.{Demand3}
 use Rattle.theory.proofs.Claims.{claims}
-use Rattle.machine.specs.States.{lastTime, allComplete, machineCheck}
-use Rattle.machine.specs.Pick.{outranks, better, bestUpTo, pick}
-use Rattle.machine.specs.Steps.{next}
-use Rattle.machine.specs.Traces.{noted, rows}
+use Rattle.machine.specs.Ticks.{lastTime, allComplete, machineCheck, outranks, better, bestUpTo, pick, next}
+use Rattle.machine.specs.Runs.{noted, rows}
 use Rattle.machine.proofs.Forward.{Carried, onward, carried, run-carried, trace-carried}
 use Rattle.known_results.specs.Cases.{KnownRun, runWith, Known, knownAt, Case, jobsIn, byDefinition, minus, p1, p4, p5, p6, p7, p8, cases}
 
@@ -60,7 +55,7 @@ settled-runs js (r ∷ rs) each = rw (settled-run js r (each .0) (each .1) (each
 -- what is known of the job at a place, by lists of ERT, CJA and ITR bounds
 abbrev knownBy : List Job → List ℕ → List ℕ → List ℕ → ℕ → Known
 knownBy js e c b i =
-    (jobAt js i, tableOf js .earliest i, interferenceAt (tableOf js) i, boundAt e i, boundAt c i, boundAt b i, getD (tabulate 0 (length js) (λ i. slack (jobAt js i .deadline) (boundAt b i))) i (pos 0))
+    (jobAt js i, tableOf js .earliest i, interferenceAt (tableOf js) i, numberAt e i, numberAt c i, numberAt b i, getD (tabulate 0 (length js) (λ i. slack (jobAt js i .deadline) (numberAt b i))) i (pos 0))
 
 known-by : (js : List Job) {e c b : List ℕ} → ert (tableOf js) ≡ e → cja (tableOf js) ≡ c → itr (tableOf js) .bounds ≡ b → knownAt js ≡ knownBy js e c b
 unfolding knownAt slacks

@@ -1,9 +1,9 @@
 -- Tables with known results: document 01, P1 to P8, and Tables 1 to 3 of source document 004 for P1. A deadline, priority or least time that it does
 -- not give is chosen here; of runs it gives the rows of P2, a completion of P3 and the end of P4, and the rest is worked out by hand. Assumes nothing.
-use Rattle.laws.specs.Words.{ℕ, Bool, true, false, List, [], _∷_, _++_, map, ℤ, pos, negℤ, length, getD, tabulate}
+use Rattle.laws.specs.Words.{ℕ, Bool, true, false, List, [], _∷_, _++_, map, length, getD, ℤ, pos, negℤ, numberAt, tabulate}
 use Rattle.jobs.specs.{declared.job.Job.Job, declared.refusal.Check.Check, Jobs.job, Jobs.jobAt, Checks.checkOf}
-use Rattle.theory.specs.{Table.tableOf, Bounds.boundAt, Bounds.interferenceAt, Bounds.ert, Bounds.cja, Rounds.itr, Verdicts.slacks, Verdicts.meets}
-use Rattle.machine.specs.{Runs.runOf, Traces.rows, Traces.traced}
+use Rattle.theory.specs.{Table.tableOf, Bounds.interferenceAt, Bounds.ert, Bounds.cja, Bounds.itr, Bounds.slacks, Bounds.meets}
+use Rattle.machine.specs.{Runs.runOf, Runs.rows, Runs.traced}
 
 -- Running times and what is known of the run with them: each job's completion in table order and its end, and the rows of its trace.
 abbrev pub KnownRun : Type 0
@@ -23,7 +23,7 @@ Known = Job × ℕ × ℕ × ℕ × ℕ × ℕ × ℤ
 unfoldable pub knownAt : List Job → ℕ → Known
 knownAt js i =
     let t = tableOf js in
-    (jobAt js i, t .earliest i, interferenceAt t i, boundAt (ert t) i, boundAt (cja t) i, boundAt (itr t .bounds) i, getD (slacks js) i (pos 0))
+    (jobAt js i, t .earliest i, interferenceAt t i, numberAt (ert t) i, numberAt (cja t) i, numberAt (itr t .bounds) i, getD (slacks js) i (pos 0))
 
 -- A table and what is known of it: its jobs; its check, ITR's rounds and verdict; runs.
 abbrev pub Case : Type 0

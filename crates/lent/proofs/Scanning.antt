@@ -17,8 +17,7 @@ use Rattle.theory.specs.Runs.{complete, predecessorComplete, ready}
 use Rattle.theory.proofs.Rules.{first-after}
 use Rattle.theory.proofs.Releases.{release-first, release-next}
 use Rattle.machine.specs.declared.state.State.{State}
-use Rattle.machine.specs.States.{readyIn}
-use Rattle.machine.specs.Pick.{better, bestUpTo}
+use Rattle.machine.specs.Ticks.{readyIn, better, bestUpTo}
 use Rattle.machine.specs.declared.pick.Best.{Best}
 use Rattle.machine.proofs.Picks.{best-step}
 use Rattle.machine.proofs.Scanned.{scanned}

@@ -3,7 +3,7 @@
 ghost use Rattle.laws.specs.Words.{_≡_, ℕ, suc, _-_, _&&_, List, length, getD, leb, ltb, eqb};
 ghost use Rattle.jobs.specs.Jobs.{jobAt};
 ghost use Rattle.theory.specs.Table.{tableOf};
-ghost use Rattle.machine.specs.{States.readyIn, Pick.bestUpTo};
+ghost use Rattle.machine.specs.{Ticks.readyIn, Ticks.bestUpTo};
 ghost use Rattle.machine.proofs.Scanned.{scanned};
 use jobs::job::Job;
 use machine::pick::Best;

@@ -1,7 +1,7 @@
 // One tick in the caller's memory.
 ghost use Rattle.laws.specs.Words.{_≡_};
 ghost use Rattle.jobs.specs.Jobs.{jobsOf};
-ghost use Rattle.machine.specs.Steps.{stepOf};
+ghost use Rattle.machine.specs.Ticks.{stepOf};
 use jobs::set::JobSet;
 use machine::state::State;
 use machine::step::Ticked;

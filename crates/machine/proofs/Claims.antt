@@ -14,8 +14,7 @@ use Rattle.jobs.specs.declared.job.Job.{Job}
 use Rattle.jobs.specs.declared.refusal.Check.the-variants.{Passed}
 use Rattle.jobs.specs.Limits.{maxJobs}
 use Rattle.theory.specs.Table.{Table, tableOf}
-use Rattle.theory.specs.Bounds.{boundAt}
-use Rattle.theory.specs.Rounds.{itr}
+use Rattle.theory.specs.Bounds.{itr}
 use Rattle.theory.specs.Runs.{Entry, idle, runs, names, work, complete, isRun}
 use Rattle.theory.proofs.AcceptedSets.{accepted-well}
 use Rattle.theory.proofs.Releases.{earliest-latest}
@@ -25,11 +24,8 @@ use Rattle.theory.proofs.Claims.{claims as Theory·claims}
 use Rattle.machine.specs.declared.state.State.{State}
 use Rattle.machine.specs.declared.step.Ticked.{Ticked}
 use Rattle.machine.specs.declared.step.Ticked.the-variants.{Finished}
-use Rattle.machine.specs.States.{lastTime, allComplete, machineCheck}
-use Rattle.machine.specs.Pick.{pick}
-use Rattle.machine.specs.Steps.{ranAs, tickOf}
-use Rattle.machine.specs.Runs.{entry, completion, finish, completions}
-use Rattle.machine.specs.Traces.{traced}
+use Rattle.machine.specs.Ticks.{lastTime, allComplete, machineCheck, pick, ranAs, tickOf}
+use Rattle.machine.specs.Runs.{entry, completion, finish, completions, traced}
 use Rattle.machine.specs.Claims.{spanEntry, EveryMachine}
 use Rattle.machine.proofs.RunningTimes.{set-passed, set-accepted, times-fit}
 use Rattle.machine.proofs.Course.{all-sum, going-ends}
@@ -75,22 +71,22 @@ module _ (js : List Job) (times : List ℕ) (passed : machineCheck js times ≡ 
 
   module _ (u : ℕ) (l : u < length js) where
     -- a job does not run at its bound or after it
-    not-late : (m : ℕ) → entry t times m ≡ runs u → m < boundAt (itr t .bounds) u
+    not-late : (m : ℕ) → entry t times m ≡ runs u → m < numberAt (itr t .bounds) u
     not-late m e =
-        by-order (boundAt (itr t .bounds) u) m
+        by-order (numberAt (itr t .bounds) u) m
         (λ late.
         let is = machine-legal (suc m) in
         let well = accepted-well js (set-accepted js times passed) in
         let few = few-jobs js times passed in
         let rel = released-by js times passed in
         let at = run-entry t times lastRelease few rel (suc m) m (omega arith) in
-        let done : complete times (work (tabulate 0 (suc m) (entry t times)) (boundAt (itr t .bounds) u)) u ≡ true
+        let done : complete times (work (tabulate 0 (suc m) (entry t times)) (numberAt (itr t .bounds) u)) u ≡ true
         = Theory·claims js (set-passed js times passed) .demand-3 .by-itr u l (t .earliest) times (tabulate 0 (suc m) (entry t times)) is (omega (arith, run-length t times lastRelease few rel (suc m))) in
-        let before = complete-eq times (work (tabulate 0 (suc m) (entry t times)) (boundAt (itr t .bounds) u)) u done in
-        absurd (legal-at well (run-from is) m u (at ∙ e) .1 .unfinished (complete-stays well (run-from is) u (boundAt (itr t .bounds) u) m late before)))
+        let before = complete-eq times (work (tabulate 0 (suc m) (entry t times)) (numberAt (itr t .bounds) u)) u done in
+        absurd (legal-at well (run-from is) m u (at ∙ e) .1 .unfinished (complete-stays well (run-from is) u (numberAt (itr t .bounds) u) m late before)))
         (λ early. early)
 
-    completion-bound : (n : ℕ) → completion t times u n ≤ boundAt (itr t .bounds) u
+    completion-bound : (n : ℕ) → completion t times u n ≤ numberAt (itr t .bounds) u
     unfolding completion
     completion-bound zero = omega arith
     completion-bound (suc n) =
@@ -98,7 +94,7 @@ module _ (js : List Job) (times : List ℕ) (passed : machineCheck js times ≡ 
         (λ h. rw h (not-late n (named (entry t times n) u h)))
         (λ h. rw h (completion-bound n))
 
-    machine-keeps-bounds : numberAt (completions t times) u ≤ boundAt (itr t .bounds) u
+    machine-keeps-bounds : numberAt (completions t times) u ≤ numberAt (itr t .bounds) u
     unfolding completions
     machine-keeps-bounds =
         let e : numberAt (tabulate 0 maxJobs (λ k. completion t times k lastTime)) u ≡ completion t times u lastTime

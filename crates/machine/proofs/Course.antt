@@ -16,9 +16,7 @@ use Rattle.jobs.specs.Limits.{maxJobs}
 use Rattle.theory.specs.Table.{Table}
 use Rattle.theory.specs.Runs.{Entry, idle, runs, complete}
 use Rattle.machine.specs.declared.state.State.{State}
-use Rattle.machine.specs.States.{allComplete, readyIn}
-use Rattle.machine.specs.Pick.{pick}
-use Rattle.machine.specs.Steps.{moved, next}
+use Rattle.machine.specs.Ticks.{allComplete, readyIn, pick, moved, next}
 use Rattle.machine.specs.Runs.{after}
 use Rattle.laws.proofs.Every.{every-at, first-failing}
 use Rattle.theory.proofs.Legal.{complete-eq, complete-ne, parts-ready}

@@ -18,11 +18,8 @@ use Rattle.theory.specs.Table.{Table, tableOf}
 use Rattle.theory.specs.Runs.{Entry, idle, runs}
 use Rattle.machine.specs.declared.state.State.{State}
 use Rattle.machine.specs.declared.trace.Span.{Span}
-use Rattle.machine.specs.States.{lastTime, start, allComplete, machineCheck}
-use Rattle.machine.specs.Pick.{pick}
-use Rattle.machine.specs.Steps.{next}
-use Rattle.machine.specs.Runs.{after, entry, runOf}
-use Rattle.machine.specs.Traces.{noted, spans, traced}
+use Rattle.machine.specs.Ticks.{lastTime, start, allComplete, machineCheck, pick, next}
+use Rattle.machine.specs.Runs.{after, entry, runOf, noted, spans, traced}
 use Rattle.machine.proofs.Ticking.{pick-chosen}
 use Rattle.machine.proofs.Course.{after-settled}
 use Rattle.machine.proofs.Running.{at-limit, few-jobs, Noted, noted-start, noted-ran, noted-idle, noted-settled, run-done}

@@ -14,8 +14,7 @@ use Rattle.laws.proofs.Tests.{by-test, by-order, same-test}
 use Rattle.theory.specs.Table.{Table}
 use Rattle.theory.specs.Runs.{complete, predecessorComplete, ready}
 use Rattle.theory.proofs.NextRelease.{nextRelease, next-after}
-use Rattle.machine.specs.States.{lastTime, readyIn}
-use Rattle.machine.specs.Pick.{bestUpTo, pick}
+use Rattle.machine.specs.Ticks.{lastTime, readyIn, bestUpTo, pick}
 use Rattle.machine.proofs.Readiness.{stateOf}
 
 abbrev pub nextTime : Bool → (ℕ → ℕ) → ℕ → ℕ → ℕ

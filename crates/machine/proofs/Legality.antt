@@ -17,9 +17,7 @@ use Rattle.theory.specs.Runs.{Entry, idle, runs, names, work, complete, ready, 
 use Rattle.theory.proofs.Legal.{entryAt, complete-eq, eq-complete, complete-not-ready, idle-legal, runs-legal, entryLegal}
 use Rattle.theory.proofs.Work.{work-here, work-away}
 use Rattle.machine.specs.declared.state.State.{State}
-use Rattle.machine.specs.States.{allComplete, readyIn}
-use Rattle.machine.specs.Pick.{pick}
-use Rattle.machine.specs.Steps.{moved}
+use Rattle.machine.specs.Ticks.{allComplete, readyIn, pick, moved}
 use Rattle.machine.specs.Runs.{after, entry}
 use Rattle.laws.proofs.Every.{every-at}
 use Rattle.machine.proofs.Readiness.{worked-here, worked-other}

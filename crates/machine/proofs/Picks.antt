@@ -16,8 +16,7 @@ use Rattle.theory.specs.Table.{Table}
 use Rattle.theory.proofs.Columns.{Alike}
 use Rattle.machine.specs.declared.state.State.{State}
 use Rattle.machine.specs.declared.pick.Best.{Best}
-use Rattle.machine.specs.States.{readyIn}
-use Rattle.machine.specs.Pick.{outranks, better, bestUpTo}
+use Rattle.machine.specs.Ticks.{readyIn, outranks, better, bestUpTo}
 use Rattle.machine.proofs.Readiness.{ready-alike}
 
 -- ---- the relation

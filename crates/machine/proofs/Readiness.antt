@@ -14,7 +14,7 @@ use Rattle.theory.specs.Runs.{complete, predecessorComplete, ready}
 use Rattle.theory.proofs.Columns.{seen, Alike}
 use Rattle.theory.proofs.Legal.{predecessor-next, predecessor-none}
 use Rattle.machine.specs.declared.state.State.{State}
-use Rattle.machine.specs.States.{readyIn}
+use Rattle.machine.specs.Ticks.{readyIn}
 
 -- a state by its time and work
 abbrev pub stateOf : ℕ → List ℕ → State

@@ -11,9 +11,8 @@ use Rattle.laws.proofs.Tests.{by-test, by-order, by-last, and-left, and-right}
 use Rattle.theory.specs.Table.{Table}
 use Rattle.theory.specs.Runs.{Entry, idle, runs}
 use Rattle.machine.specs.declared.trace.Span.{Span}
-use Rattle.machine.specs.Runs.{entry}
+use Rattle.machine.specs.Runs.{entry, noted, spans}
 use Rattle.machine.proofs.Spans.{extended}
-use Rattle.machine.specs.Traces.{noted, spans}
 use Rattle.machine.specs.Claims.{spanEntry}
 
 abbrev UpTo : List Span → ℕ → Type 0

@@ -33,9 +33,7 @@ use Rattle.theory.proofs.AcceptedSets.{accepted-latest}
 use Rattle.machine.specs.declared.columns.Columns.{Columns}
 use Rattle.machine.specs.declared.pick.Best.{Best}
 use Rattle.machine.specs.declared.run.Completed.{Completed}
-use Rattle.machine.specs.States.{lastTime, allComplete, machineCheck}
-use Rattle.machine.specs.Pick.{bestUpTo, pick}
-use Rattle.machine.specs.Steps.{moved}
+use Rattle.machine.specs.Ticks.{lastTime, allComplete, machineCheck, bestUpTo, pick, moved}
 use Rattle.machine.specs.Runs.{after, entry, completion, finish, completions, runOf}
 use Rattle.machine.proofs.Readiness.{stateOf}
 use Rattle.machine.proofs.Idling.{nextTime, time-ran, time-idle, next-later, pick-same}

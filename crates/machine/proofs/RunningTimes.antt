@@ -27,7 +27,7 @@ use Rattle.theory.specs.Table.{Table, tableOf}
 use Rattle.theory.specs.Runs.{timesFit}
 use Rattle.theory.proofs.Legal.{Times, times-from}
 use Rattle.laws.proofs.Every.{every-not}
-use Rattle.machine.specs.States.{machineCheck}
+use Rattle.machine.specs.Ticks.{machineCheck}
 
 -- ---- sums
 abbrev pub sumOf : List ℕ → ℕ → ℕ

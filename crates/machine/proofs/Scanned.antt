@@ -2,7 +2,7 @@
 use Rattle.laws.specs.Words.{ℕ, zero, suc, _-_, Bool, false, List, leb, numberAt}
 use Rattle.jobs.specs.declared.job.Job.{Job}
 use Rattle.theory.specs.{Table.tableOf, Runs.complete}
-use Rattle.machine.specs.{declared.state.State.State, declared.pick.Best.Best, Pick.bestUpTo}
+use Rattle.machine.specs.{declared.state.State.State, declared.pick.Best.Best, Ticks.bestUpTo}
 
 -- After the first n records: their best, as in a step, and of the last one chain, least time, whether it is complete, whether it is released, and
 -- the ticks since, 0 where its release is still to come.

@@ -8,8 +8,7 @@ use Rattle.laws.proofs.Tests.{by-test}
 use Rattle.theory.specs.Table.{Table}
 use Rattle.theory.specs.Runs.{Entry, idle, runs}
 use Rattle.machine.specs.declared.trace.Span.{Span}
-use Rattle.machine.specs.Runs.{entry}
-use Rattle.machine.specs.Traces.{noted, spans}
+use Rattle.machine.specs.Runs.{entry, noted, spans}
 
 -- each span begins and ends by this time
 abbrev pub EndedBy : ℕ → List Span → Type 0

@@ -21,11 +21,8 @@ use Rattle.theory.specs.Runs.{Entry, idle, runs, complete}
 use Rattle.theory.proofs.Legal.{Parts, ready-parts, parts-ready}
 use Rattle.machine.specs.declared.state.State.{State}
 use Rattle.machine.specs.declared.trace.Span.{Span}
-use Rattle.machine.specs.States.{start, allComplete, readyIn}
-use Rattle.machine.specs.Pick.{pick}
-use Rattle.machine.specs.Steps.{moved}
-use Rattle.machine.specs.Runs.{after, entry}
-use Rattle.machine.specs.Traces.{noted, spans}
+use Rattle.machine.specs.Ticks.{start, allComplete, readyIn, pick, moved}
+use Rattle.machine.specs.Runs.{after, entry, noted, spans}
 use Rattle.machine.proofs.Readiness.{predecessor-stays, worked, worked-here, worked-other, complete-other}
 use Rattle.machine.proofs.Picks.{Before, before-asymmetric, Chosen}
 use Rattle.machine.proofs.Ticking.{pick-chosen, pick-none, next-moved, next-stays}

@@ -25,9 +25,7 @@ use Rattle.machine.specs.declared.columns.Columns.{Columns}
 use Rattle.machine.specs.declared.pick.Best.{Best}
 use Rattle.machine.specs.declared.step.Ticked.the-variants.{Ran, Idle, Finished, Refused as RefusedTick}
 use Rattle.laws.specs.Words.{everyBelow, numberAt}
-use Rattle.machine.specs.States.{lastTime, allComplete, readyIn, machineCheck}
-use Rattle.machine.specs.Pick.{bestUpTo, pick}
-use Rattle.machine.specs.Steps.{moved, next, tickOf, possible, stateCheck, stepOf}
+use Rattle.machine.specs.Ticks.{lastTime, allComplete, readyIn, machineCheck, bestUpTo, pick, moved, next, tickOf, possible, stateCheck, stepOf}
 use Rattle.laws.proofs.Every.{every-not, every-at, every-ext}
 use Rattle.theory.proofs.Legal.{complete-ne, ready-parts}
 use Rattle.machine.proofs.Readiness.{predecessor-bare, predecessor-alike}

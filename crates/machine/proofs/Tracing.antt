@@ -27,10 +27,9 @@ use Rattle.theory.specs.Runs.{idle, runs}
 use Rattle.machine.specs.declared.trace.Span.{Span}
 use Rattle.machine.specs.declared.trace.Put.{Put}
 use Rattle.machine.specs.declared.trace.Traced.the-variants.{Entries, Refused as RefusedTrace}
-use Rattle.machine.specs.States.{lastTime, allComplete, machineCheck}
-use Rattle.machine.specs.Runs.{after, entry}
+use Rattle.machine.specs.Ticks.{lastTime, allComplete, machineCheck}
+use Rattle.machine.specs.Runs.{after, entry, noted, spans, row, rows, traceCheck, traced, traceOf, tracedIn}
 use Rattle.machine.proofs.Spans.{goesOn, extended, on-at, spans-within-twice}
-use Rattle.machine.specs.Traces.{noted, spans, row, rows, traceCheck, traced, traceOf, tracedIn}
 use Rattle.machine.proofs.Running.{at-limit, lastRelease, few-jobs, released-by, entry-settled, Reached, reached-settled, reached-limit}
 
 -- ---- four numbers stored one after the other

@@ -1,6 +1,3 @@
-pub mod States
-pub mod Pick
-pub mod Steps
+pub mod Ticks
 pub mod Runs
-pub mod Traces
 pub mod Claims

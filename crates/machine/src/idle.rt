@@ -2,7 +2,7 @@
 ghost use Rattle.laws.specs.Words.{_≡_, _+_, _<_, _≤_, min, cond, ltb, getD};
 ghost use Rattle.jobs.specs.Limits.{maxJobs};
 ghost use Rattle.theory.proofs.NextRelease.{nextRelease};
-ghost use Rattle.machine.specs.States.{lastTime};
+ghost use Rattle.machine.specs.Ticks.{lastTime};
 use crate::state::State;
 use jobs::set::JobSet;
 

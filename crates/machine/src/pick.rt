@@ -2,7 +2,7 @@
 ghost use Rattle.laws.specs.Words.{_≡_, _<_, _≤_, cond, length};
 ghost use Rattle.jobs.specs.Limits.{maxJobs};
 ghost use Rattle.theory.proofs.Columns.{seen};
-ghost use Rattle.machine.specs.{States.readyIn, Pick.outranks, Pick.better, Pick.bestUpTo};
+ghost use Rattle.machine.specs.{Ticks.readyIn, Ticks.outranks, Ticks.better, Ticks.bestUpTo};
 use crate::ready::is_ready;
 use jobs::set::JobSet;
 

@@ -3,7 +3,7 @@ ghost use Rattle.laws.specs.Words.{_≡_, [], _<_, _≤_, length, numberAt};
 ghost use Rattle.jobs.specs.Limits.{maxJobs};
 ghost use Rattle.theory.specs.Runs.{complete, predecessorComplete};
 ghost use Rattle.theory.proofs.Columns.{seen};
-ghost use Rattle.machine.specs.States.{allComplete, readyIn};
+ghost use Rattle.machine.specs.Ticks.{allComplete, readyIn};
 use jobs::set::JobSet;
 
 pub(crate) fn is_complete<'a, 'b>(

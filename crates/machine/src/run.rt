@@ -1,7 +1,7 @@
 // The run from time 0.
 ghost use Rattle.laws.specs.Words.{_≡_};
 ghost use Rattle.jobs.specs.Jobs.{jobsOf};
-ghost use Rattle.machine.specs.{States.machineCheck, Runs.runOf};
+ghost use Rattle.machine.specs.{Ticks.machineCheck, Runs.runOf};
 use crate::columns::columns_of;
 use crate::idle::next_time;
 use crate::pick::best_of;

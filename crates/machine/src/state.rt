@@ -1,6 +1,6 @@
 // The machine's state: the time, and the ticks of work done of each job.
 ghost use Rattle.laws.specs.Words.{_≡_};
-ghost use Rattle.machine.specs.States.{start};
+ghost use Rattle.machine.specs.Ticks.{start};
 use jobs::set::JobSet;
 
 pub struct State {

@@ -3,7 +3,7 @@ ghost use Rattle.laws.specs.Words.{_≡_, [], _<_, _≤_, length, everyBelow};
 ghost use Rattle.jobs.specs.{Limits.maxJobs, Jobs.jobsOf};
 ghost use Rattle.theory.specs.Table.{tableOf};
 ghost use Rattle.theory.proofs.Columns.{seen, Alike};
-ghost use Rattle.machine.specs.{States.machineCheck, Steps.possible, Steps.stateCheck, Steps.stepOf, Steps.tickOf};
+ghost use Rattle.machine.specs.{Ticks.machineCheck, Ticks.possible, Ticks.stateCheck, Ticks.stepOf, Ticks.tickOf};
 use crate::columns::Columns;
 use crate::columns::columns_of;
 use crate::pick::best_of;

@@ -2,7 +2,7 @@
 ghost use Rattle.laws.specs.Words.{ℕ, _≡_, _<_, _≤_, length, getD, sumBelow};
 ghost use Rattle.jobs.specs.{Limits.maxJobs, Limits.maxTime, Jobs.jobsOf};
 ghost use Rattle.theory.specs.{Table.tableOf, Runs.timesFit};
-ghost use Rattle.machine.specs.States.{machineCheck};
+ghost use Rattle.machine.specs.Ticks.{machineCheck};
 use jobs::check::check;
 use jobs::refusal::Check;
 use jobs::refusal::Refusal;

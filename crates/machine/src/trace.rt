@@ -1,7 +1,7 @@
 // The trace of the run from time 0, into a lent buffer.
 ghost use Rattle.laws.specs.Words.{_≡_, _+_, _-_, _*_, _<_, _≤_, cond, _&&_, ltb, eqb, length, patched};
 ghost use Rattle.jobs.specs.{Limits.maxJobs, Jobs.jobsOf};
-ghost use Rattle.machine.specs.{States.lastTime, States.machineCheck, Traces.rows, Traces.traced, Traces.traceOf, Traces.tracedIn};
+ghost use Rattle.machine.specs.{Ticks.lastTime, Ticks.machineCheck, Runs.rows, Runs.traced, Runs.traceOf, Runs.tracedIn};
 use crate::columns::columns_of;
 use crate::idle::next_time;
 use crate::pick::best_of;

@@ -8,6 +8,7 @@ use lib.Dec.{ltb}
 use lib.IntN.{ℤ, pos, natAbs, _-ℤ_}
 use lib.ListN.{length, getD, length-append, List·getD-eq-default}
 use borrow.Author.Tests.{ltb-true, ltb-false}
+use Rattle.laws.specs.Words.{numberAt}
 use Rattle.laws.proofs.Tests.{by-test}
 use Rattle.laws.proofs.Tabulate.{getD-tabulate}
 use Rattle.decimal.specs.Digits.{decimal, signed}
@@ -19,13 +20,11 @@ use Rattle.jobs.specs.Jobs.{noJob, jobAt}
 use Rattle.jobs.specs.Checks.{checkOf}
 use Rattle.jobs.proofs.Accepted.{Accepted, accepted, job-place}
 use Rattle.theory.specs.Table.{tableOf}
-use Rattle.theory.specs.Bounds.{boundAt, ert, cja}
-use Rattle.theory.specs.Rounds.{itr}
-use Rattle.theory.specs.Verdicts.{slack, slacks}
+use Rattle.theory.specs.Bounds.{ert, cja, itr, slack, slacks}
 use Rattle.theory.proofs.Claims.{all-limited}
 use Rattle.machine.specs.declared.trace.Span.{Span}
-use Rattle.machine.specs.States.{lastTime}
-use Rattle.machine.specs.Traces.{row, rows, traced}
+use Rattle.machine.specs.Ticks.{lastTime}
+use Rattle.machine.specs.Runs.{row, rows, traced}
 use Rattle.machine.proofs.SpanTimes.{EndedBy, spans-ended}
 use Rattle.machine.proofs.Claims.{claims}
 use Rattle.report.specs.Texts.{boundsHeader, boundsRow, boundsText, traceHeader, mostTimes, traceText, maxBytes, TextsFit}
@@ -64,8 +63,8 @@ module _ (js : List Job) (passed : checkOf js ≡ Passed) where
   unfolding slacks
   slack-within i l =
       subst (λ (z : ℤ). length (signed z) ≤ 12)
-      (sym (getD-tabulate 0 (length js) (λ k. slack (jobAt js k .deadline) (boundAt (itr (tableOf js) .bounds) k)) (pos 0) i l))
-      (signed-within 10 _ (small-difference (jobAt js (0 + i) .deadline) (boundAt (itr (tableOf js) .bounds) (0 + i)) (omega (arith, ok .limits (0 + i) (omega arith) .deadline))
+      (sym (getD-tabulate 0 (length js) (λ k. slack (jobAt js k .deadline) (numberAt (itr (tableOf js) .bounds) k)) (pos 0) i l))
+      (signed-within 10 _ (small-difference (jobAt js (0 + i) .deadline) (numberAt (itr (tableOf js) .bounds) (0 + i)) (omega (arith, ok .limits (0 + i) (omega arith) .deadline))
       (omega (arith, all-limited js passed .by-itr (0 + i) (omega arith)))))
 
   -- ---- the rows of bounds

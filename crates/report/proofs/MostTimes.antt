@@ -19,7 +19,7 @@ use Rattle.jobs.proofs.Accepted.{accepted}
 use Rattle.theory.specs.Table.{tableOf}
 use Rattle.theory.specs.Runs.{timesFit}
 use Rattle.theory.proofs.Legal.{times-to}
-use Rattle.machine.specs.States.{machineCheck}
+use Rattle.machine.specs.Ticks.{machineCheck}
 use Rattle.machine.proofs.RunningTimes.{times-passed}
 use Rattle.report.specs.Texts.{mostTimes}
 

@@ -19,9 +19,7 @@ use Rattle.jobs.proofs.Sets.{length-jobs, job-at}
 use Rattle.analysis.specs.declared.answer.Figures.{Figures}
 use Rattle.analysis.specs.Answers.{ertOf, cjaOf, itrOf, slacksOf, figuresOf}
 use Rattle.theory.specs.Table.{tableOf}
-use Rattle.theory.specs.Bounds.{ert, cja}
-use Rattle.theory.specs.Rounds.{itr}
-use Rattle.theory.specs.Verdicts.{slacks}
+use Rattle.theory.specs.Bounds.{ert, cja, itr, slacks}
 use Rattle.report.specs.declared.written.Written.the-variants.{Bytes, Refused}
 use Rattle.report.specs.Texts.{linesText, boundsHeader, boundsRow, boundsText}
 use Rattle.report.specs.Answers.{answerTo}

@@ -16,7 +16,7 @@ use Rattle.jobs.proofs.Accepted.{accepted}
 use Rattle.machine.specs.declared.trace.Span.{Span}
 use Rattle.machine.specs.declared.trace.Traced.{Traced}
 use Rattle.machine.specs.declared.trace.Traced.the-variants.{Entries, Refused as RefusedTrace}
-use Rattle.machine.specs.Traces.{row, rows, traced, traceOf, tracedIn}
+use Rattle.machine.specs.Runs.{row, rows, traced, traceOf, tracedIn}
 use Rattle.machine.proofs.Tracing.{rows-length, trace-written, traced-length}
 use Rattle.machine.proofs.Claims.{claims}
 use Rattle.report.specs.Texts.{linesText, traceHeader, entryRow, mostTimes, traceText}

@@ -1,10 +1,10 @@
 -- The texts that are printed: lines of integers with single commas. Document 01, "Programs and the C side". Assumes nothing.
-use Rattle.laws.specs.Words.{ℕ, _*_, _≤_, _≡_, List, [], _∷_, _++_, map, ℤ, pos, length, getD, take, drop, tabulate, ascii}
+use Rattle.laws.specs.Words.{ℕ, _*_, _≤_, _≡_, List, [], _∷_, _++_, map, length, getD, take, drop, ℤ, pos, tabulate, ascii}
 use Rattle.decimal.specs.Digits.{signed}
 use Rattle.jobs.specs.declared.{job.Job.Job, refusal.Refusal.Refusal, refusal.Check.Check}
 use Rattle.jobs.specs.{Limits.maxJobs, Refusals.numberOf, Jobs.jobAt, Checks.checkOf}
-use Rattle.theory.specs.{Table.tableOf, Bounds.ert, Bounds.cja, Rounds.itr, Verdicts.slacks}
-use Rattle.machine.specs.Traces.{rows, traced}
+use Rattle.theory.specs.{Table.tableOf, Bounds.ert, Bounds.cja, Bounds.itr, Bounds.slacks}
+use Rattle.machine.specs.Runs.{rows, traced}
 
 -- Integers, each after a comma, code 44.
 unfoldable pub afterCommas : List ℤ → List ℕ

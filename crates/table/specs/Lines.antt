@@ -1,5 +1,5 @@
 -- The lines of a text, and the fields of a line. Document 01, "A job table", and number 3. Assumes nothing.
-use Rattle.laws.specs.Words.{ℕ, zero, suc, cond, _&&_, Option, none, some, List, [], _∷_, _++_, drop, eqb}
+use Rattle.laws.specs.Words.{ℕ, zero, suc, cond, _&&_, Option, none, some, List, [], _∷_, _++_, eqb, drop}
 use Rattle.decimal.specs.{declared.field.Field.Field, Fields.fieldOf}
 
 -- The lines of a text: each is all that stands before the next CR LF, codes 13 and 10, or the end; none stands after a CR LF at the end.

@@ -1,5 +1,5 @@
 -- A whole job table. Document 01, "A job table", and numbers 1 to 7. Assumes nothing.
-use Rattle.laws.specs.Words.{ℕ, cond, _&&_, none, some, List, [], _∷_, _++_, length, getD, leb, eqb, sameUpTo, lastOf, ascii}
+use Rattle.laws.specs.Words.{ℕ, cond, _&&_, none, some, List, [], _∷_, _++_, leb, eqb, length, getD, sameUpTo, lastOf, ascii}
 use Rattle.jobs.specs.declared.{job.Job.Job, refusal.Refusal.Refusal, refusal.Check.Check}
 use Rattle.jobs.specs.{Refusals.onPass, Jobs.job, Jobs.noJob, Jobs.jobsOf, Jobs.setOf, Checks.recordCheck, Checks.anyRecord}
 use Rattle.table.specs.{declared.reading.Reading.Reading, Lines.linesOf, Lines.maxColumns, Lines.rowOf}

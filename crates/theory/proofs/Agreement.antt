@@ -10,14 +10,13 @@ use mathlib.Core.List.{List}
 use native.Mathlib.Omega.{arith}
 use lib.ListN.{length, take, length-take}
 use lib.Seq.{ext-getD, getD-take}
+use Rattle.laws.specs.Words.{numberAt}
 use Rattle.jobs.specs.declared.job.Job.{Job}
 use Rattle.jobs.specs.Jobs.{jobAt, urgencyOf}
 use Rattle.theory.specs.Table.{Table, latestOf, tableOf}
 use Rattle.theory.proofs.Given.{effective, given}
-use Rattle.theory.specs.Bounds.{boundAt, ert, cja}
-use Rattle.theory.specs.Rounds.{after, Answer, itr}
-use Rattle.theory.specs.Parts.{Part, LessUrgent}
-use Rattle.theory.specs.Claims.{Repeats, Settled}
+use Rattle.theory.specs.Bounds.{ert, cja, after, Answer, itr}
+use Rattle.theory.specs.Claims.{Part, LessUrgent, Repeats, Settled}
 use Rattle.theory.proofs.WellFormed.{Ordered}
 use Rattle.theory.proofs.Rules.{always, length-cja, length-ert, length-after}
 use Rattle.theory.proofs.Settling.{itr-settled, settled-unique}
@@ -69,7 +68,7 @@ module _ {s t : Table} (a : Agree s t) (o : Ordered t) where
   none-left : LessUrgent s t (λ i. i)
   none-left u i ul left il = absurd (left u (omega (arith, a .count)) refl)
 
-  same-list : (x y : List ℕ) → length x ≡ s .count → length y ≡ t .count → ((i : ℕ) → i < s .count → boundAt x i ≡ boundAt y i) → x ≡ y
+  same-list : (x y : List ℕ) → length x ≡ s .count → length y ≡ t .count → ((i : ℕ) → i < s .count → numberAt x i ≡ numberAt y i) → x ≡ y
   same-list x y p q e = ext-getD 0 x y (p ∙ a .count ∙ sym q) (λ i l. e i (omega (arith, p)))
 
   rounds-agree : (n : ℕ) → after s n ≡ after t n

@@ -11,7 +11,7 @@ use borrow.Author.Tests.{le-leb, lt-leb, eq-eqb, ne-eqb}
 use Rattle.laws.specs.Words.{sumBelow, greatest}
 use Rattle.laws.proofs.Tests.{by-order, by-equal}
 use Rattle.theory.specs.Table.{Table}
-use Rattle.theory.specs.Interference.{openBlock, largestBlock}
+use Rattle.theory.specs.Bounds.{openBlock, largestBlock}
 use Rattle.theory.proofs.Chains.{chainSum, chain-in, chain-out, chain-none}
 
 module _ (t : Table) (c target : ℕ) where

@@ -14,8 +14,7 @@ use Rattle.jobs.specs.Limits.{maxJobs, maxRelease, maxTime}
 use Rattle.jobs.specs.Checks.{checkOf}
 use Rattle.jobs.proofs.Accepted.{accepted}
 use Rattle.theory.specs.Table.{Table, tableOf}
-use Rattle.theory.specs.Bounds.{boundAt, ert, cja, boundLimit}
-use Rattle.theory.specs.Rounds.{itr}
+use Rattle.theory.specs.Bounds.{ert, cja, boundLimit, itr}
 use Rattle.theory.specs.Runs.{timesFit, releasesFit}
 use Rattle.theory.specs.Claims.{Compared, Demand3, EveryAccepted}
 use Rattle.theory.proofs.WellFormed.{WellFormed}
@@ -55,7 +54,7 @@ choice t well =
       releases-to t (t .earliest) (record { early = λ u l. omega arith; late = λ u l. well .releases u l }),
     )
 
-ert-limited : (js : List Job) → checkOf js ≡ Passed → (i : ℕ) → i < tableOf js .count → boundAt (ert (tableOf js)) i < boundLimit
+ert-limited : (js : List Job) → checkOf js ≡ Passed → (i : ℕ) → i < tableOf js .count → numberAt (ert (tableOf js)) i < boundLimit
 ert-limited js passed i l =
     let ok = accepted js passed in
     let limit : 4 * (maxRelease + maxJobs * maxTime) + suc maxJobs * suc maxJobs * maxTime < 4 * boundLimit = lit< tt in
@@ -79,9 +78,9 @@ claims js passed =
 
 -- the limit on ERT's bounds holds for the others, which are at most these
 pub record Limited (t : Table) : Type 0 where
-  pub by-ert : (i : ℕ) → i < t .count → boundAt (ert t) i < boundLimit
-  pub by-cja : (i : ℕ) → i < t .count → boundAt (cja t) i < boundLimit
-  pub by-itr : (i : ℕ) → i < t .count → boundAt (itr t .bounds) i < boundLimit
+  pub by-ert : (i : ℕ) → i < t .count → numberAt (ert t) i < boundLimit
+  pub by-cja : (i : ℕ) → i < t .count → numberAt (cja t) i < boundLimit
+  pub by-itr : (i : ℕ) → i < t .count → numberAt (itr t .bounds) i < boundLimit
 
 pub all-limited : (js : List Job) → checkOf js ≡ Passed → Limited (tableOf js)
 all-limited js passed =

@@ -9,12 +9,11 @@ use native.Mathlib.Nat.{zero-add, add-zero, add-suc}
 use lib.Dec.{ltb}
 use lib.Seq.{ext-getD}
 use borrow.Author.Tests.{ltb-true, lt-ltb, le-ltb}
-use Rattle.laws.specs.Words.{sumBelow}
+use Rattle.laws.specs.Words.{sumBelow, numberAt}
 use Rattle.laws.proofs.Tests.{by-order, by-last, never-true, cond-le, cond-one}
 use Rattle.laws.proofs.Sums.{sum-eq, sum-two, sum-skip}
 use Rattle.theory.specs.Table.{Table}
-use Rattle.theory.specs.Bounds.{boundAt, ertRule, demand, lowest, pairBound, largestPair}
-use Rattle.theory.specs.Rounds.{overlap, after, itr}
+use Rattle.theory.specs.Bounds.{ertRule, demand, lowest, pairBound, largestPair, overlap, after, itr}
 use Rattle.theory.specs.Claims.{Repeats}
 use Rattle.theory.proofs.WellFormed.{Ordered, WellFormed, chain-between}
 use Rattle.theory.proofs.Rules.{counted, ert-next, ert-own, demand-one, demand-more, demand-own, pairs-least, pair-below, at-start, at-round, length-after}
@@ -25,7 +24,7 @@ use Rattle.theory.proofs.Settling.{round-by, itr-settled}
 
 -- the bound of x after n rounds
 abbrev boundAfter : Table → ℕ → ℕ → ℕ
-boundAfter t n x = boundAt (after t n) x
+boundAfter t n x = numberAt (after t n) x
 
 bounds-grow : (t : Table) (n d x : ℕ) → x < t .count → boundAfter t n x ≤ boundAfter t (n + d) x
 bounds-grow t n zero x l = rw (add-zero n) (omega arith)

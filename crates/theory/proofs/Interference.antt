@@ -12,7 +12,7 @@ use Rattle.laws.specs.Words.{sumBelow}
 use Rattle.laws.proofs.Tests.{by-test, by-equal}
 use Rattle.laws.proofs.Sums.{sum-mono, sum-zero}
 use Rattle.theory.specs.Table.{Table}
-use Rattle.theory.specs.Interference.{largestBlock, interference}
+use Rattle.theory.specs.Bounds.{largestBlock, interference}
 use Rattle.theory.proofs.Chains.{chains, chainSum, chain-in, chain-out, by-chains}
 use Rattle.theory.proofs.Blocks.{block-mono, block-sum}
 

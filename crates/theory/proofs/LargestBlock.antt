@@ -11,7 +11,7 @@ use native.Mathlib.Nat.{add-zero, add-suc}
 use Rattle.laws.specs.Words.{sumBelow, greatest}
 use Rattle.laws.proofs.Tests.{by-order, by-equal, by-last}
 use Rattle.theory.specs.Table.{Table}
-use Rattle.theory.specs.Interference.{openBlock, largestBlock}
+use Rattle.theory.specs.Bounds.{openBlock, largestBlock}
 use Rattle.theory.proofs.WellFormed.{Ordered, chain-between}
 use Rattle.theory.proofs.Blocks.{by-place, block-out, block-on, block-ends, largest-step, open-largest}
 

@@ -9,9 +9,7 @@ use borrow.Author.Tests.{lt-ltb}
 use Rattle.laws.proofs.Tabulate.{tabulate-ext}
 use Rattle.jobs.specs.Limits.{maxJobs}
 use Rattle.theory.specs.Table.{Table}
-use Rattle.theory.specs.Interference.{interference}
-use Rattle.theory.specs.Bounds.{interferenceAt, largestPair, cjaWith, cja, boundLimit}
-use Rattle.theory.specs.Rounds.{overlap, round}
+use Rattle.theory.specs.Bounds.{interference, interferenceAt, largestPair, cjaWith, cja, boundLimit, overlap, round}
 use Rattle.theory.proofs.Interference.{interference-same}
 use Rattle.theory.proofs.Overlaps.{overlap-by}
 use Rattle.theory.proofs.Monotone.{pairs-mono}

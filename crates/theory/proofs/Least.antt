@@ -3,9 +3,9 @@ use Prim.Native.Nat.{ℕ, zero, suc, _≤_, _<_}
 use mathlib.Core.Path.{_≡_, ap, subst}
 use mathlib.Core.List.{List}
 use native.Mathlib.Omega.{arith}
+use Rattle.laws.specs.Words.{numberAt}
 use Rattle.theory.specs.Table.{Table}
-use Rattle.theory.specs.Bounds.{boundAt}
-use Rattle.theory.specs.Rounds.{overlap, round, after, itr}
+use Rattle.theory.specs.Bounds.{overlap, round, after, itr}
 use Rattle.theory.specs.Claims.{AtMost}
 use Rattle.theory.proofs.Monotone.{start-le, round-mono}
 use Rattle.theory.proofs.Settling.{itr-settled, itr-fixed}
@@ -20,12 +20,12 @@ module _ (t : Table) (b : List ℕ) (fixed : round t b ≡ b) where
   itr-below = rw (itr-settled t .made) (after-least (itr t .rounds))
 
 -- two tables whose bounds at two places are in order after every round have their ITR bounds in order there
-pub itr-order : (s t : Table) (i j : ℕ) → j < t .count → ((n : ℕ) → boundAt (after s n) i ≤ boundAt (after t n) j)
-    → boundAt (itr s .bounds) i ≤ boundAt (itr t .bounds) j
+pub itr-order : (s t : Table) (i j : ℕ) → j < t .count → ((n : ℕ) → numberAt (after s n) i ≤ numberAt (after t n) j)
+    → numberAt (itr s .bounds) i ≤ numberAt (itr t .bounds) j
 itr-order s t i j jl h =
     omega (
       arith,
-      ap (λ (b : List ℕ). boundAt b i) (itr-settled s .made),
+      ap (λ (b : List ℕ). numberAt b i) (itr-settled s .made),
       h (itr s .rounds),
       after-least t (itr t .bounds) (itr-fixed t) (itr s .rounds) j jl,
     )

@@ -5,13 +5,11 @@ use mathlib.Core.Path.{_≡_, sym, ap, subst, _∙_}
 use mathlib.Core.Bool.{Bool}
 use native.Mathlib.Omega.{arith}
 use lib.Dec.{eqb}
+use Rattle.laws.specs.Words.{numberAt}
 use Rattle.laws.proofs.Tests.{by-test, by-order}
 use Rattle.theory.specs.Table.{Table}
-use Rattle.theory.specs.Interference.{interference}
-use Rattle.theory.specs.Bounds.{boundAt, interferenceAt, ert, lowest, pairBound, largestPair, cja}
-use Rattle.theory.specs.Rounds.{overlap, after}
-use Rattle.theory.specs.Parts.{Left, Part, LessUrgent}
-use Rattle.theory.specs.Claims.{Compared}
+use Rattle.theory.specs.Bounds.{interference, interferenceAt, ert, lowest, pairBound, largestPair, cja, overlap, after}
+use Rattle.theory.specs.Claims.{Left, Part, LessUrgent, Compared}
 use Rattle.theory.proofs.WellFormed.{Ordered}
 use Rattle.theory.proofs.Rules.{counted, always, lowest-above, ert-mono, pairs-least, pair-below, at-cja, at-ert, at-round}
 use Rattle.theory.proofs.Chains.{chains, chain-most}
@@ -80,7 +78,7 @@ module _ {part t : Table} {place number : ℕ → ℕ} (h : Part part t place nu
         interference-whole (part .chain i) (part .urgency i) (t .most) (omega arith) (λ u ul left. less u i ul left l),
       )
 
-  ert-whole : (i : ℕ) → i < part .count → boundAt (ert t) (place i) ≤ boundAt (ert part) i
+  ert-whole : (i : ℕ) → i < part .count → numberAt (ert t) (place i) ≤ numberAt (ert part) i
   ert-whole i l =
       omega (
         arith,
@@ -90,11 +88,11 @@ module _ {part t : Table} {place number : ℕ → ℕ} (h : Part part t place nu
         ert-same h o (interferenceAt t) i l,
       )
 
-  cja-whole : (i : ℕ) → i < part .count → boundAt (cja t) (place i) ≤ boundAt (cja part) i
+  cja-whole : (i : ℕ) → i < part .count → numberAt (cja t) (place i) ≤ numberAt (cja part) i
   unfolding cja
   cja-whole i l = rw (at-cja part always i l, at-cja t always (place i) (h .inside i l)) (pairs-whole always i l)
 
-  after-whole : (n i : ℕ) → i < part .count → boundAt (after t n) (place i) ≤ boundAt (after part n) i
+  after-whole : (n i : ℕ) → i < part .count → numberAt (after t n) (place i) ≤ numberAt (after part n) i
   after-whole zero i l = omega (arith, start-same h o i l)
   after-whole (suc n) i l =
       omega (
@@ -107,7 +105,7 @@ module _ {part t : Table} {place number : ℕ → ℕ} (h : Part part t place nu
             (h .earliest k (omega arith)) (h .earliest u ul) (after-whole n u ul) (after-whole n i l)),
       )
 
-  pub after-same : (n i : ℕ) → i < part .count → boundAt (after part n) i ≡ boundAt (after t n) (place i)
+  pub after-same : (n i : ℕ) → i < part .count → numberAt (after part n) i ≡ numberAt (after t n) (place i)
   after-same n i l = omega (arith, after-part h o n i l, after-whole n i l)
 
   pub part-unmoved : Compared _≡_ part t place

@@ -7,11 +7,11 @@ use native.Mathlib.Omega.{arith}
 use native.Mathlib.Nat.{add-zero, add-suc, add-comm, mul-add, add-mul, mul-comm, mul-assoc, mul-le-mul-right}
 use lib.Dec.{eqb}
 use borrow.Author.Tests.{eq-eqb, ne-eqb}
-use Rattle.laws.specs.Words.{sumBelow}
+use Rattle.laws.specs.Words.{sumBelow, numberAt}
 use Rattle.laws.proofs.Tests.{by-order, by-equal, cond-one}
 use Rattle.laws.proofs.Sums.{sum-const}
 use Rattle.theory.specs.Table.{Table}
-use Rattle.theory.specs.Bounds.{boundAt, ertRule, interferenceAt, ert}
+use Rattle.theory.specs.Bounds.{ertRule, interferenceAt, ert}
 use Rattle.theory.proofs.Rules.{ert-first, ert-next, first-zero, first-after, at-ert}
 use Rattle.theory.proofs.Chains.{chainSum, chain-in, chain-out}
 use Rattle.theory.proofs.Interference.{outside, interference-most}
@@ -86,7 +86,7 @@ module _ (t : Table) where
         omega arith
 
     ert-in-chain : (c n m : ℕ) → inChain t c (t .count) ≡ n → n + m ≡ suc J → (i : ℕ) → i < t .count → t .chain i ≡ c
-        → boundAt (ert t) i ≤ R + n * (m * M)
+        → numberAt (ert t) i ≤ R + n * (m * M)
     ert-in-chain c n m is e i l ci =
         let rest : sumBelow (t .count) (outside t c (t .most)) + M ≤ m * M
         = in-and-out n m (sumBelow (t .count) (outside t c (t .most))) e (rw is at (outside-count c M (t .count) hm)) in
@@ -95,7 +95,7 @@ module _ (t : Table) where
         let up-to : inChain t c (suc i) ≤ n = omega (arith, is, inChain-mono c (suc i) (t .count) l) in
         omega (arith, at-ert t i l, ert-most (interferenceAt t) R (m * M) c i l ci hr each, mul-le-mul-right (m * M) up-to)
 
-    pub ert-limit : (i : ℕ) → i < t .count → 4 * boundAt (ert t) i ≤ 4 * R + suc J * suc J * M
+    pub ert-limit : (i : ℕ) → i < t .count → 4 * numberAt (ert t) i ≤ 4 * R + suc J * suc J * M
     ert-limit i l =
         let n : ℕ = inChain t (t .chain i) (t .count) in
         let m : ℕ = suc J - n in

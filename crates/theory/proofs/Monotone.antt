@@ -11,9 +11,7 @@ use native.Mathlib.Omega.{arith}
 use native.Mathlib.Nat.{min-eq-left, min-eq-right}
 use Rattle.laws.proofs.Tests.{by-order, by-equal, by-last, cond-le}
 use Rattle.theory.specs.Table.{Table}
-use Rattle.theory.specs.Interference.{interference}
-use Rattle.theory.specs.Bounds.{ertRule, interferenceAt, ert, demand, lowest, pairBound, largestPair, cjaWith, cja}
-use Rattle.theory.specs.Rounds.{overlap, round, after}
+use Rattle.theory.specs.Bounds.{interference, ertRule, interferenceAt, ert, demand, lowest, pairBound, largestPair, cjaWith, cja, overlap, round, after}
 use Rattle.theory.specs.Claims.{AtMost}
 use Rattle.theory.proofs.WellFormed.{Ordered, chain-between}
 use Rattle.theory.proofs.Rules.{counted, always, first-zero, first-after, ert-first, ert-next, ert-own, demand-one, demand-more, lowest-one, lowest-more, pairs-least, pair-below, at-cja, at-ert, at-start}

@@ -16,9 +16,7 @@ use Rattle.laws.proofs.Tests.{by-test, by-last}
 use Rattle.laws.proofs.Sums.{sum-const}
 use Rattle.jobs.specs.Limits.{maxTime}
 use Rattle.theory.specs.Table.{Table}
-use Rattle.theory.specs.Interference.{interference}
-use Rattle.theory.specs.Bounds.{demand, lowest, pairBound, largestPair}
-use Rattle.theory.specs.Rounds.{overlap}
+use Rattle.theory.specs.Bounds.{interference, demand, lowest, pairBound, largestPair, overlap}
 use Rattle.theory.proofs.WellFormed.{Ordered, chain-between}
 use Rattle.theory.proofs.Rules.{demand-one, demand-front, lowest-one, lowest-front, pairs-least}
 use Rattle.theory.proofs.Interference.{outside, interference-most}

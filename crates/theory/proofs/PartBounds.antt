@@ -8,16 +8,13 @@ use mathlib.Core.Bool.{Bool, cond}
 use native.Mathlib.Omega.{arith}
 use lib.Dec.{eqb}
 use borrow.Author.Tests.{eq-eqb, ne-eqb, eqb-true, eqb-false}
-use Rattle.laws.specs.Words.{sumBelow}
+use Rattle.laws.specs.Words.{sumBelow, numberAt}
 use Rattle.laws.proofs.Tests.{by-test}
 use Rattle.laws.proofs.Sums.{sum-ext}
 use Rattle.laws.proofs.Greatest.{attained}
 use Rattle.theory.specs.Table.{Table}
-use Rattle.theory.specs.Interference.{largestBlock, interference}
-use Rattle.theory.specs.Bounds.{boundAt, interferenceAt, ert, lowest, pairBound, largestPair, cja}
-use Rattle.theory.specs.Rounds.{overlap, after}
-use Rattle.theory.specs.Parts.{Part}
-use Rattle.theory.specs.Claims.{Compared}
+use Rattle.theory.specs.Bounds.{largestBlock, interference, interferenceAt, ert, lowest, pairBound, largestPair, cja, overlap, after}
+use Rattle.theory.specs.Claims.{Part, Compared}
 use Rattle.theory.proofs.WellFormed.{Ordered}
 use Rattle.theory.proofs.Rules.{counted, always, ert-mono, pairs-least, pair-below, at-cja, at-ert, at-start, at-round}
 use Rattle.theory.proofs.Chains.{chains, chain-most}
@@ -121,7 +118,7 @@ module _ {part t : Table} {place number : ℕ → ℕ} (h : Part part t place nu
   interference-at : (i : ℕ) → i < part .count → interferenceAt part i ≤ interferenceAt t (place i)
   interference-at i l = omega (arith, at-part i l, at-table i l, interference-part (part .chain i) (part .urgency i) (t .most) (omega arith))
 
-  pub ert-part : (i : ℕ) → i < part .count → boundAt (ert part) i ≤ boundAt (ert t) (place i)
+  pub ert-part : (i : ℕ) → i < part .count → numberAt (ert part) i ≤ numberAt (ert t) (place i)
   ert-part i l =
       omega (
         arith,
@@ -131,14 +128,14 @@ module _ {part t : Table} {place number : ℕ → ℕ} (h : Part part t place nu
         ert-same h o (interferenceAt t) i l,
       )
 
-  pub cja-part : (i : ℕ) → i < part .count → boundAt (cja part) i ≤ boundAt (cja t) (place i)
+  pub cja-part : (i : ℕ) → i < part .count → numberAt (cja part) i ≤ numberAt (cja t) (place i)
   unfolding cja
   cja-part i l = rw (at-cja part always i l, at-cja t always (place i) (h .inside i l)) (pairs-part always i l)
 
-  pub start-same : (i : ℕ) → i < part .count → boundAt (after part 0) i ≡ boundAt (after t 0) (place i)
+  pub start-same : (i : ℕ) → i < part .count → numberAt (after part 0) i ≡ numberAt (after t 0) (place i)
   start-same i l = at-start part i l ∙ ert-same h o (λ k. 0) i l ∙ sym (at-start t (place i) (h .inside i l))
 
-  pub after-part : (n i : ℕ) → i < part .count → boundAt (after part n) i ≤ boundAt (after t n) (place i)
+  pub after-part : (n i : ℕ) → i < part .count → numberAt (after part n) i ≤ numberAt (after t n) (place i)
   after-part zero i l = omega (arith, start-same i l)
   after-part (suc n) i l =
       omega (

@@ -8,9 +8,8 @@ use native.Mathlib.Omega.{arith}
 use Rattle.laws.specs.Words.{greatest}
 use Rattle.laws.proofs.Tests.{by-order, by-equal, by-last}
 use Rattle.theory.specs.Table.{Table}
-use Rattle.theory.specs.Interference.{openBlock, largestBlock}
-use Rattle.theory.specs.Bounds.{ertRule, demand, lowest}
-use Rattle.theory.specs.Parts.{Left, Part}
+use Rattle.theory.specs.Bounds.{openBlock, largestBlock, ertRule, demand, lowest}
+use Rattle.theory.specs.Claims.{Left, Part}
 use Rattle.theory.proofs.WellFormed.{Ordered, chain-le, chain-between}
 use Rattle.theory.proofs.Rules.{First, first-zero, first-after, ert-first, ert-next, demand-one, demand-more, lowest-one, lowest-more}
 use Rattle.theory.proofs.Blocks.{by-place, block-out, block-on, block-ends, largest-step, largest-out}

@@ -15,7 +15,7 @@ use Rattle.laws.specs.Words.{numberAt}
 use Rattle.laws.proofs.Tests.{by-test, by-equal, by-last, same-test}
 use Rattle.theory.specs.Table.{Table}
 use Rattle.theory.specs.Runs.{Entry, idle, runs, names, work}
-use Rattle.theory.specs.Parts.{Part, LessUrgent}
+use Rattle.theory.specs.Claims.{Part, LessUrgent}
 use Rattle.theory.proofs.Legal.{entryAt, Complete, PredecessorComplete, Ready, LegalEntry, Legal}
 use Rattle.theory.proofs.WellFormed.{Ordered}
 use Rattle.theory.proofs.Rules.{First, first-zero, first-after}

@@ -8,7 +8,7 @@ use Rattle.laws.proofs.Tests.{by-equal}
 use Rattle.jobs.specs.declared.job.Job.{Job}
 use Rattle.theory.specs.Table.{Table, joined, tableOf, effectiveRelease}
 use Rattle.theory.proofs.Given.{effectiveEarliest, effective, given}
-use Rattle.theory.specs.Parts.{Part}
+use Rattle.theory.specs.Claims.{Part}
 use Rattle.theory.proofs.WellFormed.{Ordered}
 use Rattle.theory.proofs.Rules.{First, first-zero, first-after}
 use Rattle.theory.proofs.Parts.{walk}

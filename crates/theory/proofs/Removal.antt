@@ -20,8 +20,7 @@ use Rattle.jobs.specs.Jobs.{jobAt, urgencyOf}
 use Rattle.jobs.proofs.Joins.{renumbered}
 use Rattle.theory.specs.Table.{latestOf, tableOf}
 use Rattle.theory.proofs.Given.{given}
-use Rattle.theory.specs.Parts.{Part, LessUrgent}
-use Rattle.theory.specs.Claims.{Compared}
+use Rattle.theory.specs.Claims.{Part, LessUrgent, Compared}
 use Rattle.theory.proofs.WellFormed.{Ordered}
 use Rattle.theory.proofs.Releases.{effective-part}
 use Rattle.theory.proofs.PartBounds.{part-no-later}

@@ -12,12 +12,11 @@ use native.Mathlib.Nat.{zero-add}
 use lib.Dec.{eqb}
 use lib.ListN.{length}
 use borrow.Author.Tests.{eqb-true, le-leb, lt-leb, eq-eqb, ne-eqb}
-use Rattle.laws.specs.Words.{greatest}
+use Rattle.laws.specs.Words.{greatest, numberAt}
 use Rattle.laws.proofs.Tests.{by-test, by-last}
 use Rattle.laws.proofs.Tabulate.{length-tabulate, getD-tabulate}
 use Rattle.theory.specs.Table.{Table, joined}
-use Rattle.theory.specs.Bounds.{boundAt, ertRule, interferenceAt, ert, demand, lowest, pairBound, largestPair, cjaWith}
-use Rattle.theory.specs.Rounds.{itrStart, overlap, round, after}
+use Rattle.theory.specs.Bounds.{ertRule, interferenceAt, ert, demand, lowest, pairBound, largestPair, cjaWith, itrStart, overlap, round, after}
 
 -- the job at v has no predecessor
 abbrev pub First : Table → ℕ → Type 0
@@ -140,7 +139,7 @@ module _ (t : Table) where
         (λ q. rw (← q, eq-eqb (t .chain k) (t .chain j) e) (omega arith))
         (λ kl. omega (arith, pair-below k j n kl e))
 
-    pub at-cja : (j : ℕ) → j < t .count → boundAt (cjaWith t keep) j ≡ largestPair t keep j (suc j)
+    pub at-cja : (j : ℕ) → j < t .count → numberAt (cjaWith t keep) j ≡ largestPair t keep j (suc j)
     unfolding cjaWith
     at-cja j l = getD-tabulate 0 (t .count) (λ i. largestPair t keep i (suc i)) 0 j l ∙ ap (λ (i : ℕ). largestPair t keep i (suc i)) (zero-add j)
 
@@ -148,7 +147,7 @@ module _ (t : Table) where
     unfolding cjaWith
     length-cja = length-tabulate 0 (t .count) (λ j. largestPair t keep j (suc j))
 
-  pub at-ert : (i : ℕ) → i < t .count → boundAt (ert t) i ≡ ertRule t (interferenceAt t) i
+  pub at-ert : (i : ℕ) → i < t .count → numberAt (ert t) i ≡ ertRule t (interferenceAt t) i
   unfolding ert
   at-ert i l = getD-tabulate 0 (t .count) (ertRule t (interferenceAt t)) 0 i l ∙ ap (ertRule t (interferenceAt t)) (zero-add i)
 
@@ -156,11 +155,11 @@ module _ (t : Table) where
   unfolding ert
   length-ert = length-tabulate 0 (t .count) (ertRule t (interferenceAt t))
 
-  pub at-start : (i : ℕ) → i < t .count → boundAt (after t 0) i ≡ ertRule t (λ k. 0) i
+  pub at-start : (i : ℕ) → i < t .count → numberAt (after t 0) i ≡ ertRule t (λ k. 0) i
   unfolding after itrStart
   at-start i l = getD-tabulate 0 (t .count) (ertRule t (λ k. 0)) 0 i l ∙ ap (ertRule t (λ k. 0)) (zero-add i)
 
-  pub at-round : (n i : ℕ) → i < t .count → boundAt (after t (suc n)) i ≡ largestPair t (overlap t (after t n)) i (suc i)
+  pub at-round : (n i : ℕ) → i < t .count → numberAt (after t (suc n)) i ≡ largestPair t (overlap t (after t n)) i (suc i)
   unfolding after round
   at-round n = at-cja (overlap t (after t n))
 

@@ -15,8 +15,7 @@ use Rattle.laws.proofs.Same.{same-at, same-refl}
 use Rattle.laws.proofs.Sums.{sum-mono, sum-eq, sum-const, sum-skip}
 use Rattle.laws.proofs.Tabulate.{tabulate-ext}
 use Rattle.theory.specs.Table.{Table}
-use Rattle.theory.specs.Bounds.{largestPair, cjaWith, cja}
-use Rattle.theory.specs.Rounds.{itrStart, overlap, round, after, Answer, settle, roundLimit, itr}
+use Rattle.theory.specs.Bounds.{largestPair, cjaWith, cja, itrStart, overlap, round, after, Answer, settle, roundLimit, itr}
 use Rattle.theory.specs.Claims.{AtMost, Repeats, Settled}
 use Rattle.theory.proofs.Rules.{length-after}
 use Rattle.theory.proofs.Monotone.{Fewer, pairs-mono, overlap-mono, round-le-cja, rounds-grow}

@@ -15,7 +15,7 @@ use Rattle.laws.specs.Words.{sumBelow, greatest}
 use Rattle.laws.proofs.Tests.{by-test, by-equal}
 use Rattle.laws.proofs.Sums.{sum-zero, sum-bump}
 use Rattle.theory.specs.Table.{Table}
-use Rattle.theory.specs.Interference.{largestBlock, interference}
+use Rattle.theory.specs.Bounds.{largestBlock, interference}
 use Rattle.theory.proofs.WellFormed.{Ordered, chain-le}
 use Rattle.theory.proofs.Chains.{chains, chain-most}
 use Rattle.theory.proofs.Blocks.{largest-rest}

@@ -11,9 +11,7 @@ use lib.ListN.{length}
 use Rattle.laws.specs.Words.{sumBelow, numberAt}
 use Rattle.laws.proofs.Tests.{by-order, by-equal}
 use Rattle.theory.specs.Table.{Table}
-use Rattle.theory.specs.Interference.{largestBlock, interference}
-use Rattle.theory.specs.Bounds.{boundAt, demand, lowest, pairBound, cja, ert}
-use Rattle.theory.specs.Rounds.{overlap, round, itr}
+use Rattle.theory.specs.Bounds.{largestBlock, interference, demand, lowest, pairBound, cja, ert, overlap, round, itr}
 use Rattle.theory.specs.Runs.{Entry, work}
 use Rattle.theory.specs.Claims.{AtMost, Holds}
 use Rattle.theory.proofs.Legal.{Complete, PredecessorComplete, Run, complete-eq, eq-complete, run-from}
@@ -101,7 +99,7 @@ module _ {t : Table} (well : WellFormed t) {release : ℕ → ℕ} {times : List
           work-mono run b (re .at) bound (omega (arith, re .before)),
         )
 
-    module _ (bounds : List ℕ) (at : boundAt bounds j ≡ bound) (known : (u : ℕ) → u < t .count → boundAt bounds u < bound → Complete times run u (boundAt bounds u)) where
+    module _ (bounds : List ℕ) (at : numberAt bounds j ≡ bound) (known : (u : ℕ) → u < t .count → numberAt bounds u < bound → Complete times run u (numberAt bounds u)) where
       -- what a job of another chain counts in the pair of the critical job and j
       abbrev weight : ℕ → ℕ
       weight = counted t (overlap t bounds) head j
@@ -110,10 +108,10 @@ module _ {t : Table} (well : WellFormed t) {release : ℕ → ℕ} {times : List
       overlaps u ul h =
           let early : t .earliest head ≤ start = is .releases .early head (omega (arith, window .from .below)) in
           overlap-by t bounds head j u
-          (by-order (boundAt bounds u) (t .earliest head)
+          (by-order (numberAt bounds u) (t .earliest head)
           (λ l.
-          let done : Complete times run u (boundAt bounds u) = known u ul (omega (arith, h .after, h .before)) in
-          absurd (h .ready .unfinished (complete-stays well is u (boundAt bounds u) (h .at) (omega (arith, h .after)) done)))
+          let done : Complete times run u (numberAt bounds u) = known u ul (omega (arith, h .after, h .before)) in
+          absurd (h .ready .unfinished (complete-stays well is u (numberAt bounds u) (h .at) (omega (arith, h .after)) done)))
           (λ l. l))
           (omega (arith, is .releases .early u ul, h .ready .released, h .before))
 
@@ -160,17 +158,17 @@ module _ {t : Table} (well : WellFormed t) {release : ℕ → ℕ} {times : List
       unfolding pairBound round
       not-late fixed =
           let in-time : start ≤ t .latest head = is .releases .late head (omega (arith, window .from .below)) in
-          let pair : pairBound t (overlap t bounds) head j ≤ boundAt (round t bounds) j
+          let pair : pairBound t (overlap t bounds) head j ≤ numberAt (round t bounds) j
           = rw (at-cja t (overlap t bounds) j (window .inside)) (pair-below t (overlap t bounds) head j (suc j) (omega (arith, window .from .below)) (window .from .same)) in
-          let same : boundAt (round t bounds) j ≡ bound = ap (λ (b : List ℕ). boundAt b j) fixed ∙ at in
+          let same : numberAt (round t bounds) j ≡ bound = ap (λ (b : List ℕ). numberAt b j) fixed ∙ at in
           omega (arith, all-ticks (omega arith), own-part)
 
   -- bounds that a round leaves unchanged hold
-  complete-by : (bounds : List ℕ) → round t bounds ≡ bounds → (m j : ℕ) → j < t .count → boundAt bounds j < m → boundAt bounds j ≤ length run
-      → Complete times run j (boundAt bounds j)
+  complete-by : (bounds : List ℕ) → round t bounds ≡ bounds → (m j : ℕ) → j < t .count → numberAt bounds j < m → numberAt bounds j ≤ length run
+      → Complete times run j (numberAt bounds j)
   complete-by bounds fixed zero j jl less long = absurd (omega arith)
   complete-by bounds fixed (suc m) j jl less long =
-      by-equal (work run (boundAt bounds j) j) (numberAt times j)
+      by-equal (work run (numberAt bounds j) j) (numberAt times j)
       (λ done. done)
       (λ late.
       absurd (not-late (record { inside = jl; long = long; late = late; from = critical well is j }) bounds refl (λ u ul l. complete-by bounds fixed m u ul (omega arith) (omega arith)) fixed))
@@ -178,12 +176,12 @@ module _ {t : Table} (well : WellFormed t) {release : ℕ → ℕ} {times : List
 module _ (t : Table) (well : WellFormed t) where
   pub fixed-holds : (bounds : List ℕ) → round t bounds ≡ bounds → Holds t bounds
   fixed-holds bounds fixed j jl release times run is long =
-      eq-complete times (work run (boundAt bounds j)) j (complete-by well (run-from is) bounds fixed (suc (boundAt bounds j)) j jl (omega arith) long)
+      eq-complete times (work run (numberAt bounds j)) j (complete-by well (run-from is) bounds fixed (suc (numberAt bounds j)) j jl (omega arith) long)
 
   pub later-holds : (a b : List ℕ) → AtMost (t .count) a b → Holds t a → Holds t b
   later-holds a b le h j jl release times run is long =
-      let before = complete-eq times (work run (boundAt a j)) j (h j jl release times run is (omega (arith, le j jl))) in
-      eq-complete times (work run (boundAt b j)) j (complete-stays well (run-from is) j (boundAt a j) (boundAt b j) (le j jl) before)
+      let before = complete-eq times (work run (numberAt a j)) j (h j jl release times run is (omega (arith, le j jl))) in
+      eq-complete times (work run (numberAt b j)) j (complete-stays well (run-from is) j (numberAt a j) (numberAt b j) (le j jl) before)
 
   pub itr-holds : Holds t (itr t .bounds)
   itr-holds = fixed-holds (itr t .bounds) (itr-fixed t)

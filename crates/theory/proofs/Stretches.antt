@@ -10,7 +10,7 @@ use lib.Dec.{leb}
 use borrow.Author.Tests.{le-leb, lt-leb}
 use Rattle.laws.proofs.Tests.{by-order}
 use Rattle.theory.specs.Table.{Table}
-use Rattle.theory.specs.Interference.{openBlock, largestBlock}
+use Rattle.theory.specs.Bounds.{openBlock, largestBlock}
 use Rattle.theory.proofs.Blocks.{block-on, block-ends, largest-step, open-largest}
 
 -- The open block after one more job of its chain: an urgent one goes on with it, any other ends it.

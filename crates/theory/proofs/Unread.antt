@@ -9,9 +9,7 @@ use mathlib.Core.List.{List}
 use lib.Dec.{eqb}
 use Rattle.laws.specs.Words.{sumBelow, tabulate, greatest}
 use Rattle.theory.specs.Table.{Table, joined}
-use Rattle.theory.specs.Interference.{openBlock, largestBlock, interference}
-use Rattle.theory.specs.Bounds.{ertRule, interferenceAt, ert, demand, lowest, pairBound, largestPair, cjaWith, cja}
-use Rattle.theory.specs.Rounds.{itrStart, overlap, round, after, itr}
+use Rattle.theory.specs.Bounds.{openBlock, largestBlock, interference, ertRule, interferenceAt, ert, demand, lowest, pairBound, largestPair, cjaWith, cja, itrStart, overlap, round, after, itr}
 use Rattle.theory.specs.Claims.{Repeats}
 use Rattle.theory.proofs.Settling.{itr-settled, settled-unique}
 use Rattle.theory.proofs.Rules.{always}

@@ -1,15 +1,37 @@
 -- What is proved of every accepted set; proofs/Claims has the proof of all. Document 01, "The runs of demand 3". Assumes nothing.
-use Rattle.laws.specs.Words.{ℕ, zero, suc, _≤_, _<_, max, _≡_, true, List, length}
+use Rattle.laws.specs.Words.{ℕ, zero, suc, _≤_, _<_, max, _≡_, _≢_, true, List, length, numberAt}
 use Rattle.jobs.specs.{declared.job.Job.Job, declared.refusal.Check.Check, Checks.checkOf}
-use Rattle.theory.specs.{Table.Table, Table.tableOf, Bounds.boundAt, Bounds.ert, Bounds.cja, Bounds.boundLimit, Rounds.round, Rounds.after, Rounds.Answer, Rounds.roundLimit, Rounds.itr, Runs.Entry, Runs.timesFit, Runs.releasesFit, Runs.isRun, Runs.CompleteBy, Parts.Part, Parts.LessUrgent}
+use Rattle.theory.specs.{Table.Table, Table.tableOf, Bounds.ert, Bounds.cja, Bounds.boundLimit, Bounds.round, Bounds.after, Bounds.Answer, Bounds.roundLimit, Bounds.itr, Runs.Entry, Runs.timesFit, Runs.releasesFit, Runs.isRun, Runs.CompleteBy}
+
+-- The job at a place of the table is not of the part.
+abbrev pub Left : Table → (ℕ → ℕ) → ℕ → Type 0
+Left part place u = (i : ℕ) → i < part .count → place i ≢ u
+
+-- The job at place i of the part is the one at `place i` of the table, where its chain x is called `number x`; both rise.
+pub record Part (part t : Table) (place number : ℕ → ℕ) : Type 0 where
+  pub inside : (i : ℕ) → i < part .count → place i < t .count
+  pub rises : (i : ℕ) → suc i < part .count → place i < place (suc i)
+  pub upwards : (x : ℕ) → number x < number (suc x)
+  pub chain : (i : ℕ) → i < part .count → t .chain (place i) ≡ number (part .chain i)
+  pub urgency : (i : ℕ) → i < part .count → t .urgency (place i) ≡ part .urgency i
+  pub least : (i : ℕ) → i < part .count → t .least (place i) ≡ part .least i
+  pub most : (i : ℕ) → i < part .count → t .most (place i) ≡ part .most i
+  pub earliest : (i : ℕ) → i < part .count → t .earliest (place i) ≡ part .earliest i
+  pub latest : (i : ℕ) → i < part .count → t .latest (place i) ≡ part .latest i
+  -- Of each chain that the part has, it has every job.
+  pub whole : (u x : ℕ) → u < t .count → t .chain u ≡ number x → Left part place u → ⊥
+
+-- Each job that is not of the part is strictly less urgent than each job of the part.
+abbrev pub LessUrgent : Table → Table → (ℕ → ℕ) → Type 0
+LessUrgent part t place = (u i : ℕ) → u < t .count → Left part place u → i < part .count → t .urgency u < part .urgency i
 
 -- Each job is complete no later than its bound.
 abbrev pub Holds : Table → List ℕ → Type 0
-Holds t bounds = (j : ℕ) → j < t .count → CompleteBy t j (boundAt bounds j)
+Holds t bounds = (j : ℕ) → j < t .count → CompleteBy t j (numberAt bounds j)
 
 -- The first bounds are at most the others, at each of the first n places.
 abbrev pub AtMost : ℕ → List ℕ → List ℕ → Type 0
-AtMost n a b = (i : ℕ) → i < n → boundAt a i ≤ boundAt b i
+AtMost n a b = (i : ℕ) → i < n → numberAt a i ≤ numberAt b i
 
 -- The round of this number changed no bound.
 abbrev pub Repeats : Table → ℕ → Type 0
@@ -34,9 +56,9 @@ pub record Demand3 (t : Table) : Type 0 where
 
 -- The bounds of a part, held to those of the table by a relation.
 pub record Compared (Relation : ℕ → ℕ → Type 0) (part t : Table) (place : ℕ → ℕ) : Type 0 where
-  pub by-ert : (i : ℕ) → i < part .count → Relation (boundAt (ert part) i) (boundAt (ert t) (place i))
-  pub by-cja : (i : ℕ) → i < part .count → Relation (boundAt (cja part) i) (boundAt (cja t) (place i))
-  pub by-itr : (i : ℕ) → i < part .count → Relation (boundAt (itr part .bounds) i) (boundAt (itr t .bounds) (place i))
+  pub by-ert : (i : ℕ) → i < part .count → Relation (numberAt (ert part) i) (numberAt (ert t) (place i))
+  pub by-cja : (i : ℕ) → i < part .count → Relation (numberAt (cja part) i) (numberAt (cja t) (place i))
+  pub by-itr : (i : ℕ) → i < part .count → Relation (numberAt (itr part .bounds) i) (numberAt (itr t .bounds) (place i))
 
 -- One field for each theorem.
 pub record Claims (t : Table) : Type 0 where
@@ -49,7 +71,7 @@ pub record Claims (t : Table) : Type 0 where
   pub runs-exist : (release : ℕ → ℕ) (times : List ℕ) → releasesFit t release ≡ true → timesFit t times ≡ true
       → (n : ℕ) → (run : List Entry) × (length run ≡ n) × (isRun t release times run ≡ true)
   -- All bounds are below the limit: those of ERT, and so the others, which are no larger.
-  pub bounds-limited : (i : ℕ) → i < t .count → boundAt (ert t) i < boundLimit
+  pub bounds-limited : (i : ℕ) → i < t .count → numberAt (ert t) i < boundLimit
   -- There are at most as many rounds as jobs, and one where there is no job.
   pub few-rounds : itr t .rounds ≤ max 1 (t .count)
   -- ITR's bounds are the least that a round leaves unchanged.

@@ -1,6 +1,6 @@
 -- The runs of demand 3. Document 01, "The runs of demand 3". Nothing here is taken from the machine or its state: a job's work is given by its place,
 -- and the tick by its number. Assumes nothing.
-use Rattle.laws.specs.Words.{ℕ, zero, suc, _+_, _≤_, _≡_, Bool, true, false, cond, not, _&&_, _||_, List, leb, ltb, eqb, length, getD, everyBelow, numberAt}
+use Rattle.laws.specs.Words.{ℕ, zero, suc, _+_, _≤_, _≡_, Bool, true, false, cond, not, _&&_, _||_, List, leb, ltb, eqb, length, getD, numberAt, everyBelow}
 use Rattle.theory.specs.Table.{Table, joined}
 
 -- One tick of a run: a job of the table, by its place, or idle.

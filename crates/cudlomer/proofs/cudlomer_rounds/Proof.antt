@@ -13,7 +13,7 @@ use Rattle.jobs.specs.Checks.{checkOf}
 use Rattle.table.proofs.Accepting.{read-check, read-jobs, read-passed}
 use Rattle.jobs.proofs.Accepted.{accepted}
 use Rattle.theory.specs.Table.{tableOf}
-use Rattle.theory.specs.Rounds.{itr}
+use Rattle.theory.specs.Bounds.{itr}
 use Rattle.theory.proofs.Claims.{claims}
 use Rattle.analysis.specs.declared.answer.Itr.{Itr}
 use Rattle.analysis.specs.Answers.{itrOf}

@@ -6,8 +6,7 @@ use lib.ListN.{getD}
 use borrow.Author.Needs.{needs}
 use Rattle.jobs.specs.Limits.{maxTime}
 use Rattle.theory.specs.Table.{Table}
-use Rattle.theory.specs.Interference.{interference}
-use Rattle.theory.specs.Bounds.{boundLimit, ertRule, interferenceAt, ert}
+use Rattle.theory.specs.Bounds.{interference, boundLimit, ertRule, interferenceAt, ert}
 use Rattle.theory.proofs.Columns.{lent, column}
 use Rattle.theory.proofs.Weights.{spanned}
 use Rattle.theory.proofs.Pairs.{delay-limit}

@@ -5,7 +5,7 @@ use mathlib.Core.Path.{refl, sym, _∙_}
 use native.Mathlib.Omega.{arith}
 use borrow.Author.Needs.{needs}
 use Rattle.theory.specs.Table.{Table}
-use Rattle.theory.specs.Rounds.{after, itr}
+use Rattle.theory.specs.Bounds.{after, itr}
 use Rattle.theory.proofs.Columns.{lent}
 use Rattle.analysis.proofs.Rounding.{Rounding, rounding-none, rounding-below, rounding-next, rounding-last, rounds-small}
 use Rattle.analysis.proofs.itr.settle.Statement.{statement}

@@ -4,8 +4,7 @@ use mathlib.Core.Path.{_≡_, ap, _∙_}
 use native.Mathlib.Omega.{arith}
 use borrow.Author.Needs.{needs}
 use Rattle.theory.specs.Table.{Table}
-use Rattle.theory.specs.Bounds.{ertRule}
-use Rattle.theory.specs.Rounds.{itrStart}
+use Rattle.theory.specs.Bounds.{ertRule, itrStart}
 use Rattle.theory.proofs.Columns.{lent, column}
 use Rattle.theory.proofs.Ruled.{Ruled, ruled-none, ruled-time, ruled-next}
 use Rattle.analysis.proofs.itr.start.Statement.{statement}

@@ -7,9 +7,8 @@ use native.Mathlib.Omega.{arith}
 use lib.ListN.{getD}
 use borrow.Author.Needs.{needs}
 use Rattle.jobs.specs.Limits.{maxTime}
-use Rattle.theory.specs.Interference.{interference}
+use Rattle.theory.specs.Bounds.{interference, overlap}
 use Rattle.theory.specs.Table.{Table}
-use Rattle.theory.specs.Rounds.{overlap}
 use Rattle.theory.proofs.Columns.{lent}
 use Rattle.theory.proofs.Weights.{spanned}
 use Rattle.theory.proofs.Pairs.{Walked, walked-none, walked-sum, walked-low, walked-next, walked-stop, walked-all, pair-is, delay-limit}

@@ -6,8 +6,7 @@ use borrow.Author.Needs.{needs}
 use Rattle.laws.proofs.Filling.{filled-none, filled-next}
 use Rattle.jobs.specs.Limits.{maxJobs}
 use Rattle.theory.specs.Table.{Table}
-use Rattle.theory.specs.Bounds.{cjaWith}
-use Rattle.theory.specs.Rounds.{round}
+use Rattle.theory.specs.Bounds.{cjaWith, round}
 use Rattle.theory.proofs.Columns.{lent, column}
 use Rattle.theory.proofs.Pairs.{roundAt}
 use Rattle.analysis.proofs.round.round.Statement.{statement}

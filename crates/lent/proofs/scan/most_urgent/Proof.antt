@@ -54,7 +54,7 @@ use Rattle.jobs.specs.declared.job.Job.{Job}
 use Rattle.lent.specs.declared.scan.Scan.{Scan}
 use Rattle.machine.specs.declared.state.State.{State}
 use Rattle.machine.specs.declared.pick.Best.{Best}
-use Rattle.machine.specs.Pick.{bestUpTo}
+use Rattle.machine.specs.Ticks.{bestUpTo}
 use Rattle.machine.proofs.Scanned.{scanned}
 use Rattle.lent.proofs.Scanning.{figuresOf, scanFrom, scanOf, best-so-far}
 use Rattle.lent.proofs.scan.look_at.Symbol.{name as #look-at}

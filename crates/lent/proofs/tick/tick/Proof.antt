@@ -40,7 +40,7 @@ use denote.Triple.Table.{entered, cited}
 use denote.Triple.Walked.{says, Stays, stay-ref, stay-none, stay-none-slice, walkOf, AllGo, goes-none, goes-none-slice, goes-ref, Walks, ends-at, walked, walk-meets}
 use denote.Exit.{yes}
 use Rattle.jobs.specs.Jobs.{jobsOf}
-use Rattle.machine.specs.Steps.{stepOf}
+use Rattle.machine.specs.Ticks.{stepOf}
 use Rattle.machine.specs.declared.state.State.{State}
 use Rattle.jobs.specs.declared.set.JobSet.{JobSet}
 use Rattle.machine.specs.declared.step.Stepped.{Stepped}

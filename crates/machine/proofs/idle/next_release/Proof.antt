@@ -8,7 +8,7 @@ use lib.Dec.{ltb}
 use lib.ListN.{getD}
 use borrow.Author.Needs.{needs}
 use Rattle.theory.proofs.NextRelease.{nextRelease, next-none, next-step}
-use Rattle.machine.specs.States.{lastTime}
+use Rattle.machine.specs.Ticks.{lastTime}
 use Rattle.machine.proofs.idle.next_release.Statement.{statement}
 use Rattle.machine.proofs.idle.next_release.Tie as tie
 

@@ -4,7 +4,7 @@ use mathlib.Core.Path.{_≡_, refl, _∙_}
 use native.Mathlib.Omega.{arith}
 use borrow.Author.Needs.{needs}
 use Rattle.theory.proofs.Columns.{seen}
-use Rattle.machine.specs.Pick.{bestUpTo}
+use Rattle.machine.specs.Ticks.{bestUpTo}
 use Rattle.machine.proofs.Readiness.{stateOf}
 use Rattle.machine.proofs.Picks.{best-step}
 use Rattle.machine.proofs.pick.best_of.Statement.{statement}

@@ -2,7 +2,7 @@
 use mathlib.Core.Path.{sym, _∙_}
 use borrow.Author.Tests.{not-true, not-false}
 use borrow.Author.Needs.{needs}
-use Rattle.machine.specs.Pick.{better}
+use Rattle.machine.specs.Ticks.{better}
 use Rattle.machine.proofs.pick.better_of.Statement.{statement}
 use Rattle.machine.proofs.pick.better_of.Tie as tie
 

@@ -2,7 +2,7 @@
 use mathlib.Core.Path.{_≡_, refl}
 use lib.Dec.{ltb}
 use borrow.Author.Tests.{lt-ltb, le-ltb, eq-eqb, ne-eqb}
-use Rattle.machine.specs.Pick.{outranks}
+use Rattle.machine.specs.Ticks.{outranks}
 use Rattle.machine.proofs.pick.is_outranking.Statement.{statement}
 use Rattle.machine.proofs.pick.is_outranking.Tie as tie
 

@@ -5,7 +5,7 @@ use native.Mathlib.Omega.{arith}
 use borrow.Author.Needs.{needs}
 use denote.Ref.{now}
 use Rattle.jobs.specs.Jobs.{jobsOf}
-use Rattle.machine.specs.States.{lastTime}
+use Rattle.machine.specs.Ticks.{lastTime}
 use Rattle.machine.proofs.RunningTimes.{set-accepted, times-brief}
 use Rattle.machine.proofs.Ticking.{Prepared, count-few, count-times}
 use Rattle.machine.proofs.Running.{reached-start, reached-finish, Reached, Noted, noted-start, noted-ran, noted-idle, noted-all, run-done, Turn, turn-early, turn-room, turn-work, turn-reached, turn-entry, turn-later, turn-ran, idle-reached, idle-kept}

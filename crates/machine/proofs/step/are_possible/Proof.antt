@@ -8,7 +8,7 @@ use borrow.Author.Tests.{not-true, not-false}
 use borrow.Author.Needs.{needs}
 use Rattle.laws.specs.Words.{everyBelow}
 use Rattle.theory.proofs.Columns.{seen}
-use Rattle.machine.specs.Steps.{possible}
+use Rattle.machine.specs.Ticks.{possible}
 use Rattle.machine.proofs.Readiness.{stateOf}
 use Rattle.laws.proofs.Every.{every-none, every-next, every-not}
 use Rattle.machine.proofs.step.are_possible.Statement.{statement}

@@ -6,7 +6,7 @@ use borrow.Author.Needs.{needs}
 use Rattle.laws.specs.Words.{numberAt}
 use Rattle.theory.specs.Runs.{predecessorComplete}
 use Rattle.theory.proofs.Columns.{seen}
-use Rattle.machine.specs.Steps.{possible}
+use Rattle.machine.specs.Ticks.{possible}
 use Rattle.machine.proofs.Readiness.{predecessor-seen}
 use Rattle.machine.proofs.step.is_possible.Statement.{statement}
 use Rattle.machine.proofs.step.is_possible.Tie as tie

@@ -12,7 +12,7 @@ use Rattle.jobs.specs.Jobs.{jobsOf}
 use Rattle.jobs.proofs.Sets.{length-jobs, job-at}
 use Rattle.jobs.specs.declared.job.Job.{Job}
 use Rattle.machine.specs.declared.trace.Put.{Put}
-use Rattle.machine.specs.States.{lastTime}
+use Rattle.machine.specs.Ticks.{lastTime}
 use Rattle.machine.proofs.RunningTimes.{set-accepted, times-brief}
 use Rattle.machine.proofs.Ticking.{Prepared, count-few, count-times}
 use Rattle.machine.proofs.Running.{Reached, reached-start, Turn, turn-early, turn-room, turn-inside, turn-work, turn-reached, turn-entry, turn-later, turn-ran, idle-reached, idle-kept}
