@@ -21,10 +21,6 @@ allComplete times work n = everyBelow n (complete times (numberAt work))
 abbrev pub readyIn : Table → List ℕ → State → ℕ → Bool
 readyIn t times s = ready t (t .earliest) times (numberAt (s .work)) (s .time)
 
--- What the machine's operations check of a set and its running times: 4 to 7, then 8.
-unfoldable pub machineCheck : List Job → List ℕ → Check
-machineCheck js times = andThen (checkOf js) (unless (timesFit (tableOf js) times) Refusal.RunningTimes Check.Passed)
-
 -- A job of urgency p and chain c goes before one of urgency q and chain d.
 unfoldable pub outranks : ℕ → ℕ → ℕ → ℕ → Bool
 outranks p c q d = ltb q p || (eqb p q && ltb c d)
@@ -71,6 +67,10 @@ tickOf js times s =
       ticked = cond (allComplete times (s .work) (t .count)) Ticked.Finished (ranAs js (pick t times s));
       state = next t times s;
     }
+
+-- What the machine's operations check of a set and its running times: 4 to 7, then 8.
+unfoldable pub machineCheck : List Job → List ℕ → Check
+machineCheck js times = andThen (checkOf js) (unless (timesFit (tableOf js) times) Refusal.RunningTimes Check.Passed)
 
 -- A job has no more work than its running time, and work only with its predecessor complete and at a time after its release.
 unfoldable pub possible : Table → List ℕ → State → ℕ → Bool
