@@ -3,6 +3,7 @@ use crate::print::print;
 use crate::print::print_number;
 use crate::print::print_refused;
 use crate::tables::set_of;
+use crate::traces::MAX_NUMBERS;
 use crate::traces::most_times;
 use jobs::set::JobSet;
 use machine::trace::Traced;
@@ -29,8 +30,8 @@ fn print_traced(set: JobSet, times: &[u64], numbers: &mut [u64]) {
 
 // A trace into a buffer of this many numbers, each of them 7 before.
 fn print_into(set: JobSet, times: &[u64], room: usize) {
-    let mut numbers = [7u64; 512];
-    if room <= 512 {
+    let mut numbers = [7u64; MAX_NUMBERS];
+    if room <= MAX_NUMBERS {
         print_traced(set, times, &mut numbers[..room]);
     }
 }

@@ -12,6 +12,9 @@ use machine::run::run;
 use machine::trace::Traced;
 use machine::trace::trace;
 
+// The numbers of the longest trace.
+pub(crate) const MAX_NUMBERS: usize = 8 * JobSet::MAX_JOBS;
+
 // The most time of each job; lending the array needs its length.
 pub(crate) fn most_times(set: JobSet) -> [u64; JobSet::MAX_JOBS]
     ensures { λ r. ⌜ maxJobs ≡ length r ⌝ }
@@ -64,7 +67,7 @@ fn print_run(set: JobSet, times: &[u64], numbers: &mut [u64]) {
 pub(crate) fn print_trace(name: &[u8]) {
     let set = set_of(name);
     let times = most_times(set);
-    let mut numbers = [0u64; 512];
+    let mut numbers = [0u64; MAX_NUMBERS];
     let count = set.count;
     if count <= JobSet::MAX_JOBS {
         print_run(set, &times[..count], &mut numbers);

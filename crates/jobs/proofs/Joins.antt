@@ -16,18 +16,14 @@ use Rattle.jobs.specs.declared.refusal.Refusal.the-variants.{NoRecord}
 use Rattle.jobs.specs.declared.refusal.Check.{Check}
 use Rattle.jobs.specs.declared.refusal.Check.the-variants.{Passed, Refused}
 use Rattle.jobs.specs.Limits.{maxJobs, maxChains}
-use Rattle.jobs.specs.Jobs.{job, noJob, jobsOf, setOf, jobAt}
+use Rattle.jobs.specs.Jobs.{noJob, jobsOf, setOf, jobAt}
 use Rattle.jobs.specs.Checks.{recordCheck, recordsCheck}
-use Rattle.jobs.specs.Joins.{numbered, withChain, joinCheck, joinOf}
+use Rattle.jobs.specs.Joins.{renumbered, numbered, withChain, joinCheck, joinOf}
 use Rattle.jobs.proofs.Sets.{job-at, grown, set-grown}
 use Rattle.jobs.proofs.Checks.{nextCheck, records-none, records-refused, records-passed, records-append, any-none, any-some, last-take}
 use Rattle.jobs.proofs.Accepted.{limited-at, records-few}
 
 -- ---- numbering
--- a job under another chain and job number, with its values as they were
-abbrev pub renumbered : ℕ → ℕ → Job → Job
-renumbered c k j = job c k (j .release) (j .priority) (j .least) (j .most) (j .deadline)
-
 pub length-numbered : (c k : ℕ) (js : List Job) → length (numbered c k js) ≡ length js
 unfolding numbered
 length-numbered c k [] = refl

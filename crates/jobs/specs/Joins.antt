@@ -3,10 +3,14 @@ use Rattle.laws.specs.Words.{ℕ, _+_, List, [], _∷_, _++_, lastOf}
 use Rattle.jobs.specs.declared.{job.Job.Job, set.JobSet.JobSet, refusal.Check.Check, join.Joined.Joined}
 use Rattle.jobs.specs.{Refusals.onPass, Refusals.andThen, Jobs.job, Jobs.noJob, Jobs.jobsOf, Jobs.setOf, Checks.recordsCheck, Checks.anyRecord}
 
--- Records as the jobs k, k + 1, … of the chain c, with their values as they were.
+-- A job under another chain and job number, with its values as they were.
+abbrev pub renumbered : ℕ → ℕ → Job → Job
+renumbered c k j = job c k (j .release) (j .priority) (j .least) (j .most) (j .deadline)
+
+-- Records as the jobs k, k + 1, … of the chain c.
 unfoldable pub numbered : ℕ → ℕ → List Job → List Job
 numbered c k [] = []
-numbered c k (j ∷ js) = job c k (j .release) (j .priority) (j .least) (j .most) (j .deadline) ∷ numbered c (k + 1) js
+numbered c k (j ∷ js) = renumbered c k j ∷ numbered c (k + 1) js
 
 -- A set's jobs and, behind them, the new ones as the next chain.
 unfoldable pub withChain : List Job → List Job → List Job

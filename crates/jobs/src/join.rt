@@ -1,6 +1,6 @@
 // A further chain joins a set as its highest-numbered one.
 ghost use Rattle.laws.specs.Words.{_≡_, [], _+_, _≤_, lastOf};
-ghost use Rattle.jobs.specs.{Limits.maxJobs, Jobs.job as Jobs·job, Jobs.noJob, Jobs.jobsOf, Jobs.setOf, Checks.recordsCheck, Joins.joinOf};
+ghost use Rattle.jobs.specs.{Limits.maxJobs, Jobs.noJob, Jobs.jobsOf, Jobs.setOf, Checks.recordsCheck, Joins.renumbered, Joins.joinOf};
 use crate::check::check_records;
 use crate::job::Job;
 use crate::record::check_record;
@@ -44,17 +44,12 @@ fn last_of(set: JobSet) -> Job
 
 // A job under another chain and job number.
 fn renumber(chain: u64, number: u64, job: Job) -> Job
-    ensures { λ r. ⌜ r ≡ Jobs·job chain number (job .release) (job .priority) (job .least) (job .most) (job .deadline) ⌝ }
+    ensures { λ r. ⌜ r ≡ renumbered chain number job ⌝ }
 {
-    Job {
-        chain,
-        job: number,
-        release: job.release,
-        priority: job.priority,
-        least: job.least,
-        most: job.most,
-        deadline: job.deadline,
-    }
+    let mut renumbered = job;
+    renumbered.chain = chain;
+    renumbered.job = number;
+    renumbered
 }
 
 // The new records behind those of the old set, which have passed.

@@ -17,7 +17,7 @@ use borrow.Author.Tests.{lt-ltb, le-ltb, eqb-false, ne-eqb}
 use Rattle.laws.proofs.Tests.{by-test, by-order, by-equal}
 use Rattle.jobs.specs.declared.job.Job.{Job}
 use Rattle.jobs.specs.Jobs.{jobAt, urgencyOf}
-use Rattle.jobs.proofs.Joins.{renumbered}
+use Rattle.jobs.specs.Joins.{renumbered}
 use Rattle.theory.specs.Table.{latestOf, tableOf}
 use Rattle.theory.proofs.Given.{given}
 use Rattle.theory.specs.Claims.{Part, LessUrgent, Compared}

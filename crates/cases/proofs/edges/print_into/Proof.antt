@@ -1,7 +1,9 @@
 -- `print_into` lends as many numbers as asked. Assumes nothing.
+use Prim.Native.Nat.{_*_}
 use mathlib.Core.Path.{refl}
 use lib.ListN.{replicate}
 use borrow.Author.Needs.{needs}
+use Rattle.jobs.specs.Limits.{maxJobs}
 use Rattle.cases.proofs.Lending.{length-lent}
 use Rattle.cases.proofs.edges.print_into.Statement.{statement}
 use Rattle.cases.proofs.edges.print_into.Tie as tie
@@ -10,7 +12,7 @@ array-borrow-prefix-numbers : tie.Need-array-borrow-prefix-numbers
 array-borrow-prefix-numbers c = search needs
 
 slice-aggregate-print-traced : tie.Need-slice-aggregate-print-traced
-slice-aggregate-print-traced c = length-lent (replicate 512 7) refl (c .before .if1 .taken)
+slice-aggregate-print-traced c = length-lent (replicate (8 * maxJobs) 7) refl (c .before .if1 .taken)
 
 print-traced-requires : tie.Need-print-traced-requires
 print-traced-requires c κs = search needs

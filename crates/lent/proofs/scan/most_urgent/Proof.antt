@@ -20,7 +20,7 @@ use mir.Syntax.{Ty, named, imm, w64, tyInt, tyBool, tyPtr, tyRef}
 use mir.Val.{Val, vint, vptr, vbool, WT}
 use base.Logic.{SProp, ent, sep, emp, via, fst∗, snd∗, exE, id⊢}
 use base.Fml.{Lft, Share, Fml, ftrue, flft, fat, froom, fdies, fobor}
-use prog.Memory.{Memory}
+use prog.Memory.{Memory, size}
 use prog.Routine.{Routine}
 use prog.Wp.{Heap, Out, Env, Wp, WpFn, Tables, afterSeq, afterBlock, afterTurn, atReturn}
 use ghost.Atoms.{Atoms, sem}
@@ -81,7 +81,7 @@ stayed = (stay-none-slice (0 ∷ []) tt (plain (λ _. J.the-row)) yes, (stay-non
 
 -- the size of a job record
 abbrev job-bytes : ℕ
-job-bytes = 56
+job-bytes = size J′.mir
 
 -- machine values
 abbrev job-vals : Job → List Val
