@@ -1,7 +1,11 @@
 // The largest block of one chain.
-ghost use Rattle.laws.specs.Words.{_≡_, cond, ℕ, _+_, _-_, _^_, _≤_, _<_, eqb, getD};
+ghost use Rattle.laws.specs.Words.{_≡_, cond, ℕ, _+_, _-_, _^_, _≤_, _<_, eqb};
 ghost use Rattle.jobs.specs.Limits.{maxJobs, maxTime};
-ghost use Rattle.theory.proofs.{Weights.weightOf, Weights.spanned, Stretches.opened as Theory·opened, Stretches.largestOver};
+ghost use Rattle.theory.proofs.{Columns.lent, Weights.weightOf, Weights.spanned, Stretches.opened as Theory·opened, Stretches.largestOver};
+use crate::columns::Columns;
+use crate::columns::EARLIEST;
+use crate::columns::MOST;
+use crate::columns::URGENCY;
 use crate::number::larger;
 use jobs::set::JobSet;
 
@@ -30,23 +34,21 @@ fn opened(block: u64, target: u64, urgency: u64, weight: u64) -> u64
 fn largest_block<'a, 'b>(
     first: usize,
     end: usize,
-    urgency: &'a [u64; JobSet::MAX_JOBS],
-    most: &'a [u64; JobSet::MAX_JOBS],
-    earliest: &'a [u64; JobSet::MAX_JOBS],
+    columns: &'a Columns,
     bound: &'b [u64; JobSet::MAX_JOBS],
     target: u64,
     from: u64,
     to: u64,
 ) -> u64
-    requires { ⌜ (first ≤ end) × (end ≤ maxJobs) × ((i : ℕ) → i < end → getD (now most) i 0 ≤ maxTime) ⌝ }
-    ensures { λ r. ⌜ r ≡ largestOver (λ i. getD (now (urgency .entry)) i 0) target (spanned (now (most .entry)) (now (earliest .entry)) (now (bound .entry)) from to) first (end - first) ⌝ }
+    requires { ⌜ (first ≤ end) × (end ≤ maxJobs) × ((i : ℕ) → i < end → lent end (now columns) .most i ≤ maxTime) ⌝ }
+    ensures { λ r. ⌜ r ≡ largestOver (lent end (now (columns .entry)) .urgency) target (spanned (now (columns .entry)) (now (bound .entry)) from to) first (end - first) ⌝ }
 {
     let mut block: u64 = 0;
     let mut largest: u64 = 0;
     let mut i = first;
     while i < end {
-        let counts = weight(from, to, most[i], earliest[i], bound[i]);
-        block = opened(block, target, urgency[i], counts);
+        let counts = weight(from, to, columns[MOST][i], columns[EARLIEST][i], bound[i]);
+        block = opened(block, target, columns[URGENCY][i], counts);
         largest = larger(largest, block);
         i += 1;
     }
@@ -59,19 +61,17 @@ pub(crate) fn share<'a, 'b>(
     chain: u64,
     first: usize,
     end: usize,
-    urgency: &'a [u64; JobSet::MAX_JOBS],
-    most: &'a [u64; JobSet::MAX_JOBS],
-    earliest: &'a [u64; JobSet::MAX_JOBS],
+    columns: &'a Columns,
     bound: &'b [u64; JobSet::MAX_JOBS],
     target: u64,
     from: u64,
     to: u64,
 ) -> u64
-    requires { ⌜ (first ≤ end) × (end ≤ maxJobs) × ((i : ℕ) → i < end → getD (now most) i 0 ≤ maxTime) ⌝ }
-    ensures { λ r. ⌜ r ≡ cond (eqb chain own) 0 (largestOver (λ i. getD (now (urgency .entry)) i 0) target (spanned (now (most .entry)) (now (earliest .entry)) (now (bound .entry)) from to) first (end - first)) ⌝ }
+    requires { ⌜ (first ≤ end) × (end ≤ maxJobs) × ((i : ℕ) → i < end → lent end (now columns) .most i ≤ maxTime) ⌝ }
+    ensures { λ r. ⌜ r ≡ cond (eqb chain own) 0 (largestOver (lent end (now (columns .entry)) .urgency) target (spanned (now (columns .entry)) (now (bound .entry)) from to) first (end - first)) ⌝ }
 {
     if chain == own {
         return 0;
     }
-    largest_block(first, end, urgency, most, earliest, bound, target, from, to)
+    largest_block(first, end, columns, bound, target, from, to)
 }

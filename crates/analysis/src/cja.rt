@@ -19,17 +19,7 @@ pub(crate) fn accepted_cja(set: JobSet) -> [u64; JobSet::MAX_JOBS]
     let columns = columns_of(set);
     let late = [Bounds::LIMIT; JobSet::MAX_JOBS];
     let mut bounds = [0u64; JobSet::MAX_JOBS];
-    round(
-        count,
-        &columns.ends,
-        &columns.chain,
-        &columns.urgency,
-        &columns.most,
-        &columns.earliest,
-        &columns.latest,
-        &late,
-        &mut bounds,
-    );
+    round(count, &columns, &late, &mut bounds);
     bounds
 }
 

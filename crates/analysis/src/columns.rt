@@ -2,21 +2,27 @@
 ghost use Rattle.laws.specs.Words.{_≡_, cond, _≤_, eqb};
 ghost use Rattle.jobs.specs.{declared.refusal.Check.Check, Jobs.jobsOf, Checks.checkOf};
 ghost use Rattle.theory.specs.Table.{tableOf};
-ghost use Rattle.theory.proofs.{Columns.column, Endings.Ended};
+ghost use Rattle.theory.proofs.{Agreement.Agree, Columns.lent, Endings.Ended, Unread.bare};
 use crate::number::larger;
 use crate::predecessor::not_before;
 use jobs::job::Job;
 use jobs::set::JobSet;
 
-// Places beyond the jobs hold 0. Where a chain has its first job, `ends` has the place after its last one.
-pub struct Columns {
-    pub ends: [usize; JobSet::MAX_JOBS],
-    pub chain: [u64; JobSet::MAX_JOBS],
-    pub urgency: [u64; JobSet::MAX_JOBS],
-    pub most: [u64; JobSet::MAX_JOBS],
-    pub earliest: [u64; JobSet::MAX_JOBS],
-    pub latest: [u64; JobSet::MAX_JOBS],
-}
+// A column for each of the figures named below. Places beyond the jobs hold 0.
+pub type Columns = [[u64; JobSet::MAX_JOBS]; 6];
+
+pub const CHAIN: usize = 0;
+
+pub const URGENCY: usize = 1;
+
+pub const MOST: usize = 2;
+
+pub const EARLIEST: usize = 3;
+
+pub const LATEST: usize = 4;
+
+// Where a chain has its first job, the place after its last one.
+pub const END: usize = 5;
 
 // The first place of the chain of the job at i; the job before it is of chain `last`, which begins at `first`.
 fn first_of(last: u64, chain: u64, first: usize, i: usize) -> usize
@@ -32,17 +38,9 @@ fn first_of(last: u64, chain: u64, first: usize, i: usize) -> usize
 // The columns of an accepted set.
 pub(crate) fn columns_of(set: JobSet) -> Columns
     requires { ⌜ checkOf (jobsOf set) ≡ Check.Passed ⌝ }
-    ensures { λ r. let t = tableOf (jobsOf set) in let n = set .count in ⌜ (r ≡ record { ends = r .ends; chain = column n (t .chain); urgency = column n (t .urgency); most = column n (t .most); earliest = column n (t .earliest); latest = column n (t .latest) }) × Ended n (r .chain) (r .ends) ⌝ }
+    ensures { λ r. ⌜ Agree (lent (set .count) r) (bare (tableOf (jobsOf set))) × Ended (set .count) r ⌝ }
 {
-    let none = [0u64; JobSet::MAX_JOBS];
-    let mut columns = Columns {
-        ends: [0; JobSet::MAX_JOBS],
-        chain: none,
-        urgency: none,
-        most: none,
-        earliest: none,
-        latest: none,
-    };
+    let mut columns = [[0u64; JobSet::MAX_JOBS]; 6];
     let count = set.count;
     let mut last: u64 = 0;
     let mut ready: u64 = 0;
@@ -51,13 +49,13 @@ pub(crate) fn columns_of(set: JobSet) -> Columns
     while i < count {
         let job = set.jobs[i];
         let earliest = not_before(last, job.chain, job.release, ready);
-        columns.chain[i] = job.chain;
-        columns.urgency[i] = Job::urgency(job);
-        columns.most[i] = job.most;
-        columns.earliest[i] = earliest;
-        columns.latest[i] = larger(job.release, earliest);
+        columns[CHAIN][i] = job.chain;
+        columns[URGENCY][i] = Job::urgency(job);
+        columns[MOST][i] = job.most;
+        columns[EARLIEST][i] = earliest;
+        columns[LATEST][i] = larger(job.release, earliest);
         first = first_of(last, job.chain, first, i);
-        columns.ends[first] = i + 1;
+        columns[END][first] = (i + 1) as u64;
         last = job.chain;
         ready = earliest + job.least;
         i += 1;

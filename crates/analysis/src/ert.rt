@@ -5,6 +5,11 @@ ghost use Rattle.theory.specs.{Table.tableOf, Bounds.ert as Theory·ert};
 ghost use Rattle.analysis.specs.Answers.{ertOf};
 ghost use Rattle.theory.proofs.{Columns.lent, Columns.Fit, Endings.Ended};
 use crate::answer::Bounds;
+use crate::columns::CHAIN;
+use crate::columns::Columns;
+use crate::columns::LATEST;
+use crate::columns::MOST;
+use crate::columns::URGENCY;
 use crate::columns::columns_of;
 use crate::interference::interference;
 use crate::predecessor::not_before;
@@ -13,17 +18,9 @@ use jobs::refusal::Check;
 use jobs::set::JobSet;
 
 // By the ERT rule, job by job; the bound of every job is so late that each of them counts.
-fn by_rule<'a>(
-    count: usize,
-    ends: &'a [usize; JobSet::MAX_JOBS],
-    chain: &'a [u64; JobSet::MAX_JOBS],
-    urgency: &'a [u64; JobSet::MAX_JOBS],
-    most: &'a [u64; JobSet::MAX_JOBS],
-    earliest: &'a [u64; JobSet::MAX_JOBS],
-    latest: &'a [u64; JobSet::MAX_JOBS],
-) -> [u64; JobSet::MAX_JOBS]
-    requires { ⌜ Fit (lent count (now chain) (now urgency) (now most) (now earliest) (now latest)) × Ended count (now chain) (now ends) ⌝ }
-    ensures { λ r. ⌜ r ≡ padded maxJobs 0 (Theory·ert (lent count (now (chain .entry)) (now (urgency .entry)) (now (most .entry)) (now (earliest .entry)) (now (latest .entry)))) ⌝ }
+fn by_rule<'a>(count: usize, columns: &'a Columns) -> [u64; JobSet::MAX_JOBS]
+    requires { ⌜ Fit (lent count (now columns)) × Ended count (now columns) ⌝ }
+    ensures { λ r. ⌜ r ≡ padded maxJobs 0 (Theory·ert (lent count (now (columns .entry)))) ⌝ }
 {
     let late = [Bounds::LIMIT; JobSet::MAX_JOBS];
     let mut bounds = [0u64; JobSet::MAX_JOBS];
@@ -31,22 +28,19 @@ fn by_rule<'a>(
     let mut bound: u64 = 0;
     let mut i: usize = 0;
     while i < count {
+        let own = columns[CHAIN][i];
         let delay = interference(
             count,
-            ends,
-            chain,
-            urgency,
-            most,
-            earliest,
+            columns,
             &late,
-            chain[i],
-            urgency[i],
+            own,
+            columns[URGENCY][i],
             0,
             Bounds::LIMIT,
         );
-        bound = not_before(last, chain[i], latest[i], bound) + most[i] + delay;
+        bound = not_before(last, own, columns[LATEST][i], bound) + columns[MOST][i] + delay;
         bounds[i] = bound;
-        last = chain[i];
+        last = own;
         i += 1;
     }
     bounds
@@ -59,15 +53,7 @@ pub(crate) fn accepted_ert(set: JobSet) -> [u64; JobSet::MAX_JOBS]
 {
     let count = set.count;
     let columns = columns_of(set);
-    by_rule(
-        count,
-        &columns.ends,
-        &columns.chain,
-        &columns.urgency,
-        &columns.most,
-        &columns.earliest,
-        &columns.latest,
-    )
+    by_rule(count, &columns)
 }
 
 // The ERT bounds of all jobs.

@@ -5,6 +5,10 @@ ghost use Rattle.theory.specs.{Table.tableOf, Bounds.itrStart, Bounds.itr as Th
 ghost use Rattle.analysis.specs.Answers.{itrOf};
 ghost use Rattle.theory.proofs.{Columns.lent, Columns.Fit, Endings.Ended};
 use crate::answer::Itr;
+use crate::columns::CHAIN;
+use crate::columns::Columns;
+use crate::columns::LATEST;
+use crate::columns::MOST;
 use crate::columns::columns_of;
 use crate::predecessor::not_before;
 use crate::round::round;
@@ -13,25 +17,19 @@ use jobs::refusal::Check;
 use jobs::set::JobSet;
 
 // The bounds to start from: the ERT rule with interference 0.
-fn start<'a>(
-    count: usize,
-    chain: &'a [u64; JobSet::MAX_JOBS],
-    urgency: &'a [u64; JobSet::MAX_JOBS],
-    most: &'a [u64; JobSet::MAX_JOBS],
-    earliest: &'a [u64; JobSet::MAX_JOBS],
-    latest: &'a [u64; JobSet::MAX_JOBS],
-) -> [u64; JobSet::MAX_JOBS]
-    requires { ⌜ Fit (lent count (now chain) (now urgency) (now most) (now earliest) (now latest)) ⌝ }
-    ensures { λ r. ⌜ r ≡ padded maxJobs 0 (itrStart (lent count (now (chain .entry)) (now (urgency .entry)) (now (most .entry)) (now (earliest .entry)) (now (latest .entry)))) ⌝ }
+fn start<'a>(count: usize, columns: &'a Columns) -> [u64; JobSet::MAX_JOBS]
+    requires { ⌜ Fit (lent count (now columns)) ⌝ }
+    ensures { λ r. ⌜ r ≡ padded maxJobs 0 (itrStart (lent count (now (columns .entry)))) ⌝ }
 {
     let mut bounds = [0u64; JobSet::MAX_JOBS];
     let mut last: u64 = 0;
     let mut bound: u64 = 0;
     let mut i: usize = 0;
     while i < count {
-        bound = not_before(last, chain[i], latest[i], bound) + most[i];
+        let own = columns[CHAIN][i];
+        bound = not_before(last, own, columns[LATEST][i], bound) + columns[MOST][i];
         bounds[i] = bound;
-        last = chain[i];
+        last = own;
         i += 1;
     }
     bounds
@@ -57,33 +55,15 @@ fn same_bounds<'a, 'b>(
 }
 
 // Rounds until one changes no bound; that one counts.
-fn settle<'a>(
-    count: usize,
-    ends: &'a [usize; JobSet::MAX_JOBS],
-    chain: &'a [u64; JobSet::MAX_JOBS],
-    urgency: &'a [u64; JobSet::MAX_JOBS],
-    most: &'a [u64; JobSet::MAX_JOBS],
-    earliest: &'a [u64; JobSet::MAX_JOBS],
-    latest: &'a [u64; JobSet::MAX_JOBS],
-) -> Itr
-    requires { ⌜ Fit (lent count (now chain) (now urgency) (now most) (now earliest) (now latest)) × Ended count (now chain) (now ends) ⌝ }
-    ensures { λ r. let answer = Theory·itr (lent count (now (chain .entry)) (now (urgency .entry)) (now (most .entry)) (now (earliest .entry)) (now (latest .entry))) in ⌜ r ≡ record { check = Check.Passed; bounds = padded maxJobs 0 (answer .bounds); rounds = answer .rounds } ⌝ }
+fn settle<'a>(count: usize, columns: &'a Columns) -> Itr
+    requires { ⌜ Fit (lent count (now columns)) × Ended count (now columns) ⌝ }
+    ensures { λ r. let answer = Theory·itr (lent count (now (columns .entry))) in ⌜ r ≡ record { check = Check.Passed; bounds = padded maxJobs 0 (answer .bounds); rounds = answer .rounds } ⌝ }
 {
-    let mut bounds = start(count, chain, urgency, most, earliest, latest);
+    let mut bounds = start(count, columns);
     let mut rounds: u64 = 0;
     loop {
         let mut next = [0u64; JobSet::MAX_JOBS];
-        round(
-            count,
-            ends,
-            chain,
-            urgency,
-            most,
-            earliest,
-            latest,
-            &bounds,
-            &mut next,
-        );
+        round(count, columns, &bounds, &mut next);
         let taken = rounds + 1;
         if same_bounds(count, &next, &bounds) {
             return Itr {
@@ -104,15 +84,7 @@ pub(crate) fn accepted_itr(set: JobSet) -> Itr
 {
     let count = set.count;
     let columns = columns_of(set);
-    settle(
-        count,
-        &columns.ends,
-        &columns.chain,
-        &columns.urgency,
-        &columns.most,
-        &columns.earliest,
-        &columns.latest,
-    )
+    settle(count, &columns)
 }
 
 // The ITR bounds of all jobs, and the number of rounds.

@@ -1,6 +1,12 @@
 // The largest sum over the pairs that end with one job.
 ghost use Rattle.laws.specs.Words.{_≡_, _<_};
 ghost use Rattle.theory.proofs.{Columns.lent, Columns.Fit, Endings.Ended, Pairs.roundAt};
+use crate::columns::CHAIN;
+use crate::columns::Columns;
+use crate::columns::EARLIEST;
+use crate::columns::LATEST;
+use crate::columns::MOST;
+use crate::columns::URGENCY;
 use crate::interference::interference;
 use crate::number::larger;
 use crate::number::lower;
@@ -9,45 +15,28 @@ use jobs::set::JobSet;
 // The pairs (k, j) with k from j down to the chain's first job, where a job counts if its span by `bound` overlaps the pair's.
 pub(crate) fn largest_pair<'a, 'b>(
     count: usize,
-    ends: &'a [usize; JobSet::MAX_JOBS],
-    chain: &'a [u64; JobSet::MAX_JOBS],
-    urgency: &'a [u64; JobSet::MAX_JOBS],
-    most: &'a [u64; JobSet::MAX_JOBS],
-    earliest: &'a [u64; JobSet::MAX_JOBS],
-    latest: &'a [u64; JobSet::MAX_JOBS],
+    columns: &'a Columns,
     bound: &'b [u64; JobSet::MAX_JOBS],
     j: usize,
 ) -> u64
-    requires { ⌜ Fit (lent count (now chain) (now urgency) (now most) (now earliest) (now latest)) × Ended count (now chain) (now ends) × (j < count) ⌝ }
-    ensures { λ r. ⌜ r ≡ roundAt (lent count (now (chain .entry)) (now (urgency .entry)) (now (most .entry)) (now (earliest .entry)) (now (latest .entry))) (now (bound .entry)) j ⌝ }
+    requires { ⌜ Fit (lent count (now columns)) × Ended count (now columns) × (j < count) ⌝ }
+    ensures { λ r. ⌜ r ≡ roundAt (lent count (now (columns .entry))) (now (bound .entry)) j ⌝ }
 {
-    let own = chain[j];
+    let own = columns[CHAIN][j];
     let to = bound[j];
     let mut sum: u64 = 0;
-    let mut low = urgency[j];
+    let mut low = columns[URGENCY][j];
     let mut best: u64 = 0;
     let mut k = j + 1;
     while 0 < k {
         k -= 1;
-        if chain[k] != own {
+        if columns[CHAIN][k] != own {
             return best;
         }
-        sum += most[k];
-        low = lower(low, urgency[k]);
-        let delay = interference(
-            count,
-            ends,
-            chain,
-            urgency,
-            most,
-            earliest,
-            bound,
-            own,
-            low,
-            earliest[k],
-            to,
-        );
-        best = larger(best, latest[k] + sum + delay);
+        sum += columns[MOST][k];
+        low = lower(low, columns[URGENCY][k]);
+        let delay = interference(count, columns, bound, own, low, columns[EARLIEST][k], to);
+        best = larger(best, columns[LATEST][k] + sum + delay);
     }
     best
 }

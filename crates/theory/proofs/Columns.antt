@@ -1,28 +1,32 @@
 -- A table whose figures stand in columns of numbers, as the code reads them. Assumes nothing.
 use Prim.Native.Nat.{ℕ, suc, _+_, _*_, _≤_, _<_}
 use mathlib.Core.Path.{_≡_}
-use mathlib.Core.List.{List, []}
+use mathlib.Core.List.{List, [], _∷_}
 use lib.ListN.{length, getD}
 use Rattle.laws.specs.Words.{tabulate, padded}
 use Rattle.jobs.specs.Limits.{maxJobs, maxRelease, maxTime}
 use Rattle.theory.specs.Table.{Table}
 
+-- The figure at place i of column k.
+abbrev pub figure : List (List ℕ) → ℕ → ℕ → ℕ
+figure columns k i = getD (getD columns k []) i 0
+
 -- The table of the jobs whose figures stand in lent columns; the bounds do not read the least times.
-abbrev pub lent : ℕ → List ℕ → List ℕ → List ℕ → List ℕ → List ℕ → Table
-lent count chain urgency most earliest latest =
+abbrev pub lent : ℕ → List (List ℕ) → Table
+lent count columns =
     record {
       count = count;
-      chain = λ i. getD chain i 0;
-      urgency = λ i. getD urgency i 0;
+      chain = λ i. figure columns 0 i;
+      urgency = λ i. figure columns 1 i;
       least = λ i. 0;
-      most = λ i. getD most i 0;
-      earliest = λ i. getD earliest i 0;
-      latest = λ i. getD latest i 0;
+      most = λ i. figure columns 2 i;
+      earliest = λ i. figure columns 3 i;
+      latest = λ i. figure columns 4 i;
     }
 
 -- The table of the jobs whose figures the machine reads from columns: it reads no times, and one release of each job.
 abbrev pub seen : List ℕ → List ℕ → List ℕ → Table
-seen chain urgency release = lent (length chain) chain urgency [] release release
+seen chain urgency release = lent (length chain) (chain ∷ urgency ∷ [] ∷ release ∷ release ∷ [])
 
 -- Two tables agree in the figures that the machine reads of their first n jobs.
 pub record Alike (a b : Table) (n : ℕ) : Type 0 where

@@ -13,6 +13,7 @@ use lib.ListN.{length, getD, set}
 use lib.Seq.{getD-set-same, getD-set-other}
 use borrow.Author.Tests.{eq-eqb, ne-eqb}
 use Rattle.laws.proofs.Tests.{by-test, by-order, by-equal}
+use Rattle.theory.proofs.Columns.{figure}
 use Rattle.theory.proofs.Prior.{prior}
 
 -- The chain of the job at i ends before e.
@@ -27,8 +28,8 @@ abbrev pub First : (ℕ → ℕ) → ℕ → Type 0
 First chain i = (v : ℕ) → v < i → chain v ≢ chain i
 
 -- At the first place of each chain, the place after its last job.
-abbrev pub Ended : ℕ → List ℕ → List ℕ → Type 0
-Ended count chain ends = (i : ℕ) → i < count → First (λ u. getD chain u 0) i → EndsAt count (λ u. getD chain u 0) i (getD ends i 0)
+abbrev pub Ended : ℕ → List (List ℕ) → Type 0
+Ended count columns = (i : ℕ) → i < count → First (figure columns 0) i → EndsAt count (figure columns 0) i (figure columns 5 i)
 
 pub record Heads (chain : ℕ → ℕ) (i first : ℕ) (ends : List ℕ) : Type 0 where
   pub within : first ≤ i

@@ -15,7 +15,6 @@ use Rattle.theory.proofs.Overlaps.{overlap-by}
 use Rattle.theory.proofs.Monotone.{pairs-mono}
 use Rattle.theory.proofs.Columns.{lent, Fit}
 use Rattle.theory.proofs.Weights.{weightOf, spanned}
-use Rattle.theory.proofs.Unread.{interference-unread}
 use Rattle.theory.proofs.Rules.{always}
 
 abbrev pub late : List ℕ
@@ -41,20 +40,15 @@ module _ (t : Table) (fit : Fit t) where
         pairs-mono t always (overlap t late) j (λ k u kj c ul ne v. late-overlap k j u (omega arith) (omega arith) ul),
       ))
 
-module _ (count : ℕ) (chain urgency most earliest latest : List ℕ) (fit : Fit (lent count chain urgency most earliest latest)) where
+module _ (count : ℕ) (columns : List (List ℕ)) (fit : Fit (lent count columns)) where
   abbrev t : Table
-  t = lent count chain urgency most earliest latest
+  t = lent count columns
 
-  weight-late : (u : ℕ) → u < count → spanned most earliest late 0 boundLimit u ≡ getD most u 0
+  weight-late : (u : ℕ) → u < count → spanned columns late 0 boundLimit u ≡ t .most u
   unfolding weightOf
   weight-late u l =
-      rw (lt-ltb 0 (getD late u 0) (omega (arith, late-at u (omega (arith, fit .few)))), lt-ltb (getD earliest u 0) boundLimit (omega (arith, fit .early u l)))
+      rw (lt-ltb 0 (getD late u 0) (omega (arith, late-at u (omega (arith, fit .few)))), lt-ltb (t .earliest u) boundLimit (omega (arith, fit .early u l)))
 
-  pub delay-late : (i delay : ℕ)
-      → delay ≡ interference (lent count chain urgency most earliest earliest) (getD chain i 0) (getD urgency i 0) (spanned most earliest late 0 boundLimit)
-      → delay ≡ interferenceAt t i
+  pub delay-late : (i delay : ℕ) → delay ≡ interference t (t .chain i) (t .urgency i) (spanned columns late 0 boundLimit) → delay ≡ interferenceAt t i
   unfolding interferenceAt
-  delay-late i delay e =
-      e
-      ∙ interference-unread count (t .chain) (t .urgency) (λ k. 0) (t .most) (t .earliest) (t .earliest) (λ k. 0) (t .most) (t .earliest) (t .latest) _ _ _
-      ∙ interference-same t (t .chain i) (t .urgency i) (spanned most earliest late 0 boundLimit) (t .most) (λ u ul ne. weight-late u ul)
+  delay-late i delay e = e ∙ interference-same t (t .chain i) (t .urgency i) (spanned columns late 0 boundLimit) (t .most) (λ u ul ne. weight-late u ul)

@@ -22,7 +22,6 @@ use Rattle.theory.proofs.Rules.{demand-one, demand-front, lowest-one, l
 use Rattle.theory.proofs.Interference.{outside, interference-most}
 use Rattle.theory.proofs.Columns.{lent}
 use Rattle.theory.proofs.Weights.{weightOf, spanned, weight-le}
-use Rattle.theory.proofs.Unread.{interference-unread}
 
 -- The bound that a round gives the job at j: the largest sum over the pairs that end with it, where the spans are by the previous bounds.
 abbrev pub roundAt : Table → List ℕ → ℕ → ℕ
@@ -125,23 +124,19 @@ interference-limit t own target m w h =
     )
 
 -- ---- a pair's sum, as the code works it out
-module _ (count : ℕ) (chain urgency most earliest latest bound : List ℕ) where
+module _ (count : ℕ) (columns : List (List ℕ)) (bound : List ℕ) where
   abbrev t : Table
-  t = lent count chain urgency most earliest latest
+  t = lent count columns
 
   pub pair-is : (k j sum low delay : ℕ) → k ≤ j → sum ≡ demandFrom t k j → low ≡ lowestFrom t k j
-      → delay ≡ interference (lent count chain urgency most earliest earliest) (getD chain j 0) low (spanned most earliest bound (getD earliest k 0) (getD bound j 0))
-      → getD latest k 0 + sum + delay ≡ pairBound t (overlap t bound) k j
+      → delay ≡ interference t (t .chain j) low (spanned columns bound (t .earliest k) (getD bound j 0))
+      → t .latest k + sum + delay ≡ pairBound t (overlap t bound) k j
   unfolding pairBound overlap weightOf
-  pair-is k j sum low delay l es el ed =
-      rw (es, ed, el, demand-in t j k l, lowest-in t j k l)
-      (ap (λ (d : ℕ). getD latest k 0 + demand t k j + d)
-      (interference-unread count (t .chain) (t .urgency) (λ i. 0) (t .most) (t .earliest) (t .earliest) (λ i. 0) (t .most) (t .earliest) (t .latest)
-      (getD chain j 0) (lowest t k j) _))
+  pair-is k j sum low delay l es el ed = rw (es, ed, el, demand-in t j k l, lowest-in t j k l)
 
-  pub delay-limit : ((u : ℕ) → u < count → getD most u 0 ≤ maxTime) → (own target from to delay : ℕ)
-      → delay ≡ interference (lent count chain urgency most earliest earliest) own target (spanned most earliest bound from to) → delay ≤ count * maxTime
+  pub delay-limit : ((u : ℕ) → u < count → t .most u ≤ maxTime) → (own target from to delay : ℕ)
+      → delay ≡ interference t own target (spanned columns bound from to) → delay ≤ count * maxTime
   delay-limit mosts own target from to delay e =
       rw e
-      (interference-limit (lent count chain urgency most earliest earliest) own target maxTime (spanned most earliest bound from to) (λ u l.
-      omega (arith, weight-le from to (getD most u 0) (getD earliest u 0) (getD bound u 0), mosts u l)))
+      (interference-limit t own target maxTime (spanned columns bound from to) (λ u l.
+      omega (arith, weight-le from to (t .most u) (t .earliest u) (getD bound u 0), mosts u l)))

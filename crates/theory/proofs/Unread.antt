@@ -1,5 +1,4 @@
--- What a rule does not read of a table does not count: interference reads the count, the chains and the urgencies, and the bounds read all but the
--- least times.
+-- What a rule does not read of a table does not count: the bounds read all but the least times.
 --   bare   a table with no least times
 -- Assumes nothing.
 use Prim.Native.Nat.{ℕ, zero, suc}
@@ -14,30 +13,6 @@ use Rattle.theory.specs.Claims.{Repeats}
 use Rattle.theory.proofs.Settling.{itr-settled, settled-unique}
 use Rattle.theory.proofs.Rules.{always}
 
--- two tables of the same count, chains and urgencies
-module _ (n : ℕ) (chain urgency : ℕ → ℕ) (least most earliest latest least' most' earliest' latest' : ℕ → ℕ) where
-  abbrev s : Table
-  s = record { count = n; chain = chain; urgency = urgency; least = least; most = most; earliest = earliest; latest = latest }
-
-  abbrev t : Table
-  t = record { count = n; chain = chain; urgency = urgency; least = least'; most = most'; earliest = earliest'; latest = latest' }
-
-  open-unread : (c target : ℕ) (w : ℕ → ℕ) (u : ℕ) → openBlock s c target w u ≡ openBlock t c target w u
-  unfolding openBlock
-  open-unread c target w zero = refl
-  open-unread c target w (suc u) = rw (open-unread c target w u)
-
-  largest-unread : (c target : ℕ) (w : ℕ → ℕ) (u : ℕ) → largestBlock s c target w u ≡ largestBlock t c target w u
-  unfolding largestBlock greatest
-  largest-unread c target w zero = refl
-  largest-unread c target w (suc u) = rw (largest-unread c target w u, open-unread c target w (suc u))
-
-  pub interference-unread : (own target : ℕ) (w : ℕ → ℕ) → interference s own target w ≡ interference t own target w
-  unfolding interference
-  interference-unread own target w =
-      ap (λ (f : ℕ → ℕ). sumBelow (suc (greatest n chain)) f)
-      (fun-ext (λ c. ap (λ (b : ℕ). cond (eqb c own) 0 b) (largest-unread c target w n)))
-
 abbrev pub bare : Table → Table
 bare t =
     record {
@@ -51,9 +26,21 @@ bare t =
     }
 
 module _ (t : Table) where
+  open-bare : (c target : ℕ) (w : ℕ → ℕ) (u : ℕ) → openBlock (bare t) c target w u ≡ openBlock t c target w u
+  unfolding openBlock
+  open-bare c target w zero = refl
+  open-bare c target w (suc u) = rw (open-bare c target w u)
+
+  block-bare : (c target : ℕ) (w : ℕ → ℕ) (u : ℕ) → largestBlock (bare t) c target w u ≡ largestBlock t c target w u
+  unfolding largestBlock greatest
+  block-bare c target w zero = refl
+  block-bare c target w (suc u) = rw (block-bare c target w u, open-bare c target w (suc u))
+
   interference-bare : (own target : ℕ) (w : ℕ → ℕ) → interference (bare t) own target w ≡ interference t own target w
-  interference-bare =
-      interference-unread (t .count) (t .chain) (t .urgency) (λ i. 0) (t .most) (t .earliest) (t .latest) (t .least) (t .most) (t .earliest) (t .latest)
+  unfolding interference
+  interference-bare own target w =
+      ap (λ (f : ℕ → ℕ). sumBelow (suc (greatest (t .count) (t .chain))) f)
+      (fun-ext (λ c. ap (λ (b : ℕ). cond (eqb c own) 0 b) (block-bare c target w (t .count))))
 
   rule-bare : (inter : ℕ → ℕ) (i : ℕ) → ertRule (bare t) inter i ≡ ertRule t inter i
   unfolding ertRule joined

@@ -6,14 +6,15 @@ use native.Mathlib.Omega.{arith}
 use lib.Dec.{ltb}
 use lib.ListN.{getD}
 use Rattle.laws.proofs.Tests.{by-test}
+use Rattle.theory.proofs.Columns.{figure}
 
 -- What a job counts in a pair: its most time where its span overlaps the one open at `from` and closed at `to`.
 unfoldable pub weightOf : ℕ → ℕ → ℕ → ℕ → ℕ → ℕ
 weightOf from to most release bound = cond (ltb from bound && ltb release to) most 0
 
 -- The same by the place of the job.
-abbrev pub spanned : List ℕ → List ℕ → List ℕ → ℕ → ℕ → ℕ → ℕ
-spanned most earliest bound from to u = weightOf from to (getD most u 0) (getD earliest u 0) (getD bound u 0)
+abbrev pub spanned : List (List ℕ) → List ℕ → ℕ → ℕ → ℕ → ℕ
+spanned columns bound from to u = weightOf from to (figure columns 2 u) (figure columns 3 u) (getD bound u 0)
 
 pub weight-le : (from to most release bound : ℕ) → weightOf from to most release bound ≤ most
 unfolding weightOf

@@ -5,24 +5,29 @@ use native.Mathlib.Omega.{arith}
 use lib.ListN.{getD}
 use borrow.Author.Needs.{needs}
 use Rattle.jobs.specs.Limits.{maxTime}
+use Rattle.theory.specs.Table.{Table}
+use Rattle.theory.proofs.Columns.{lent}
 use Rattle.theory.proofs.Weights.{spanned, weight-le}
 use Rattle.theory.proofs.Stretches.{opened, Blocked, blocked-none, blocked-small, blocked-next, blocked-all}
 use Rattle.analysis.proofs.block.largest_block.Statement.{statement}
 use Rattle.analysis.proofs.block.largest_block.Tie as tie
 
 abbrev Inv-loop : tie.InvT-loop
-Inv-loop first end urgency most earliest bound target from to block₀ largest₀ i₀ block largest i =
-    Blocked (λ u. getD urgency u 0) target (spanned most earliest bound from to) first end i block largest
+Inv-loop first end columns bound target from to block₀ largest₀ i₀ block largest i =
+    Blocked (lent end columns .urgency) target (spanned columns bound from to) first end i block largest
 
 abbrev μ-loop : tie.MeasureT-loop
-μ-loop first end urgency most earliest bound target from to block₀ largest₀ i₀ block largest i = end - i
+μ-loop first end columns bound target from to block₀ largest₀ i₀ block largest i = end - i
 
--- what each job counts, at most its most time
+-- the table of the lent columns, and what each job counts, at most its most time
+abbrev table : tie.Start Inv-loop μ-loop → Table
+table s = lent (s .args .end) (s .args .columns .now)
+
 abbrev counts : tie.Start Inv-loop μ-loop → ℕ → ℕ
-counts s = spanned (s .args .most .now) (s .args .earliest .now) (s .args .bound .now) (s .args .from) (s .args .to)
+counts s = spanned (s .args .columns .now) (s .args .bound .now) (s .args .from) (s .args .to)
 
 counts-limit : (s : tie.Start Inv-loop μ-loop) (i : ℕ) → i < s .args .end → counts s i ≤ maxTime
-counts-limit s i l = omega (arith, s .pre .2 i l, weight-le (s .args .from) (s .args .to) (getD (s .args .most .now) i 0) (getD (s .args .earliest .now) i 0) (getD (s .args .bound .now) i 0))
+counts-limit s i l = omega (arith, s .pre .2 i l, weight-le (s .args .from) (s .args .to) (table s .most i) (table s .earliest i) (getD (s .args .bound .now) i 0))
 
 loop-holds : tie.Need-loop-holds Inv-loop μ-loop
 loop-holds c = blocked-none _ (c .args .target) (counts c) (c .args .first) (c .args .end) (c .pre .0)
@@ -30,20 +35,26 @@ loop-holds c = blocked-none _ (c .args .target) (counts c) (c .args .first) (c .
 mul-weight : tie.Need-mul-weight Inv-loop μ-loop
 mul-weight c = search needs
 
-element-copy-out-weight : tie.Need-element-copy-out-weight Inv-loop μ-loop
-element-copy-out-weight c = search needs
+index-1-weight : tie.Need-index-1-weight Inv-loop μ-loop
+index-1-weight c = search needs
+
+index-2-weight : tie.Need-index-2-weight Inv-loop μ-loop
+index-2-weight c = search needs
 
 mul-weight-2 : tie.Need-mul-weight-2 Inv-loop μ-loop
 mul-weight-2 c = search needs
 
-element-copy-out-weight-2 : tie.Need-element-copy-out-weight-2 Inv-loop μ-loop
-element-copy-out-weight-2 c = search needs
+index-1-weight-2 : tie.Need-index-1-weight-2 Inv-loop μ-loop
+index-1-weight-2 c = search needs
+
+index-2-weight-2 : tie.Need-index-2-weight-2 Inv-loop μ-loop
+index-2-weight-2 c = search needs
 
 mul-weight-3 : tie.Need-mul-weight-3 Inv-loop μ-loop
 mul-weight-3 c = search needs
 
-element-copy-out-weight-3 : tie.Need-element-copy-out-weight-3 Inv-loop μ-loop
-element-copy-out-weight-3 c = search needs
+element-copy-out-weight : tie.Need-element-copy-out-weight Inv-loop μ-loop
+element-copy-out-weight c = search needs
 
 weight-requires : tie.Need-weight-requires Inv-loop μ-loop
 weight-requires c κs = search needs
@@ -51,8 +62,11 @@ weight-requires c κs = search needs
 mul-opened : tie.Need-mul-opened Inv-loop μ-loop
 mul-opened c = search needs
 
-element-copy-out-opened : tie.Need-element-copy-out-opened Inv-loop μ-loop
-element-copy-out-opened c = search needs
+index-1-opened : tie.Need-index-1-opened Inv-loop μ-loop
+index-1-opened c = search needs
+
+index-2-opened : tie.Need-index-2-opened Inv-loop μ-loop
+index-2-opened c = search needs
 
 opened-requires : tie.Need-opened-requires Inv-loop μ-loop
 opened-requires c κs =
@@ -77,7 +91,7 @@ loop-again c =
     let l = c .before .before .before .before .before .before .before .before .loop in
     let h = c .before .before .before .before .before .before .before .loop-test .taken in
     blocked-next _ (s .args .target) (counts s) (s .args .first) (s .args .end) (l .inv) h _ _
-    (c .before .opened .ensures ∙ ap (opened (l .block) (s .args .target) (getD (s .args .urgency .now) (l .i) 0)) (c .before .before .before .weight .ensures)) (c .larger .ensures)
+    (c .before .opened .ensures ∙ ap (opened (l .block) (s .args .target) (table s .urgency (l .i))) (c .before .before .before .weight .ensures)) (c .larger .ensures)
 
 returns : tie.Need-returns Inv-loop μ-loop
 returns c =
@@ -93,14 +107,17 @@ largest-block-spec =
     μ-loop
     loop-holds
     mul-weight
-    element-copy-out-weight
+    index-1-weight
+    index-2-weight
     mul-weight-2
-    element-copy-out-weight-2
+    index-1-weight-2
+    index-2-weight-2
     mul-weight-3
-    element-copy-out-weight-3
+    element-copy-out-weight
     weight-requires
     mul-opened
-    element-copy-out-opened
+    index-1-opened
+    index-2-opened
     opened-requires
     larger-requires
     add-i

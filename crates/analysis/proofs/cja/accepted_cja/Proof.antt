@@ -13,14 +13,14 @@ columns-of-requires c κs = search needs
 
 round-requires : tie.Need-round-requires
 round-requires c κs =
-    let s = c .before .before .before .before .before .before .before .before .before .before in
-    let made = c .before .before .before .before .before .before .before .before .before .columns-of in
+    let s = c .before .before .before .before in
+    let made = c .before .before .before .columns-of in
     (lends (s .args .set) (s .pre) (made .result) (made .ensures .0) .fit, made .ensures .1, refl)
 
 returns : tie.Need-returns
 returns c =
-    let s = c .before .before .before .before .before .before .before .before .before .before .before in
-    let made = c .before .before .before .before .before .before .before .before .before .before .columns-of in
+    let s = c .before .before .before .before .before in
+    let made = c .before .before .before .before .columns-of in
     let held = lends (s .args .set) (s .pre) (made .result) (made .ensures .0) in
     c .round .ensures ∙ ap (padded maxJobs 0) (round-late _ (held .fit) ∙ held .by-cja)
 

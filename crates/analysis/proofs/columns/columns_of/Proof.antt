@@ -1,4 +1,5 @@
--- `columns_of` answers `columnsOf` with the ends of the chains. The loop's invariant: the columns hold the figures of the first i jobs. Assumes nothing.
+-- `columns_of` answers columns that agree with the set's table, with the ends of the chains. The loop's invariant: the columns hold the figures of the first i jobs.
+-- Assumes nothing.
 use Prim.Native.Nat.{_-_, _≤_, _<_}
 use mathlib.Core.Path.{_≡_, sym}
 use native.Mathlib.Omega.{arith}
@@ -37,8 +38,11 @@ not-before-requires c κs = search needs
 mul-columns : tie.Need-mul-columns Inv-loop μ-loop
 mul-columns c = search needs
 
-element-write-columns : tie.Need-element-write-columns Inv-loop μ-loop
-element-write-columns c = search needs
+index-1-columns : tie.Need-index-1-columns Inv-loop μ-loop
+index-1-columns c = search needs
+
+index-2-columns : tie.Need-index-2-columns Inv-loop μ-loop
+index-2-columns c = search needs
 
 urgency-requires : tie.Need-urgency-requires Inv-loop μ-loop
 urgency-requires c κs = search needs
@@ -46,20 +50,29 @@ urgency-requires c κs = search needs
 mul-columns-2 : tie.Need-mul-columns-2 Inv-loop μ-loop
 mul-columns-2 c = search needs
 
-element-write-columns-2 : tie.Need-element-write-columns-2 Inv-loop μ-loop
-element-write-columns-2 c = search needs
+index-1-columns-2 : tie.Need-index-1-columns-2 Inv-loop μ-loop
+index-1-columns-2 c = search needs
+
+index-2-columns-2 : tie.Need-index-2-columns-2 Inv-loop μ-loop
+index-2-columns-2 c = search needs
 
 mul-columns-3 : tie.Need-mul-columns-3 Inv-loop μ-loop
 mul-columns-3 c = search needs
 
-element-write-columns-3 : tie.Need-element-write-columns-3 Inv-loop μ-loop
-element-write-columns-3 c = search needs
+index-1-columns-3 : tie.Need-index-1-columns-3 Inv-loop μ-loop
+index-1-columns-3 c = search needs
+
+index-2-columns-3 : tie.Need-index-2-columns-3 Inv-loop μ-loop
+index-2-columns-3 c = search needs
 
 mul-columns-4 : tie.Need-mul-columns-4 Inv-loop μ-loop
 mul-columns-4 c = search needs
 
-element-write-columns-4 : tie.Need-element-write-columns-4 Inv-loop μ-loop
-element-write-columns-4 c = search needs
+index-1-columns-4 : tie.Need-index-1-columns-4 Inv-loop μ-loop
+index-1-columns-4 c = search needs
+
+index-2-columns-4 : tie.Need-index-2-columns-4 Inv-loop μ-loop
+index-2-columns-4 c = search needs
 
 larger-requires : tie.Need-larger-requires Inv-loop μ-loop
 larger-requires c κs = search needs
@@ -67,8 +80,11 @@ larger-requires c κs = search needs
 mul-columns-5 : tie.Need-mul-columns-5 Inv-loop μ-loop
 mul-columns-5 c = search needs
 
-element-write-columns-5 : tie.Need-element-write-columns-5 Inv-loop μ-loop
-element-write-columns-5 c = search needs
+index-1-columns-5 : tie.Need-index-1-columns-5 Inv-loop μ-loop
+index-1-columns-5 c = search needs
+
+index-2-columns-5 : tie.Need-index-2-columns-5 Inv-loop μ-loop
+index-2-columns-5 c = search needs
 
 first-of-requires : tie.Need-first-of-requires Inv-loop μ-loop
 first-of-requires c κs = c .before .before .before .before .before .loop .inv .1 .heads .within
@@ -79,8 +95,11 @@ add-columns c = search needs
 mul-columns-6 : tie.Need-mul-columns-6 Inv-loop μ-loop
 mul-columns-6 c = search needs
 
-element-write-columns-6 : tie.Need-element-write-columns-6 Inv-loop μ-loop
-element-write-columns-6 c = search needs
+index-1-columns-6 : tie.Need-index-1-columns-6 Inv-loop μ-loop
+index-1-columns-6 c = search needs
+
+index-2-columns-6 : tie.Need-index-2-columns-6 Inv-loop μ-loop
+index-2-columns-6 c = search needs
 
 add-ready : tie.Need-add-ready Inv-loop μ-loop
 add-ready c =
@@ -113,7 +132,8 @@ returns c =
     let s = c .before .before .args .t1 in
     let l = c .before .loop in
     let all : l .i ≡ s .count = omega (arith, length-jobs s, l .inv .1 .inside, c .loop-test .left) in
-    (gathered-all (jobsOf s) (l .i) (s .count) all (l .inv .1), gathered-ended (jobsOf s) (l .i) (s .count) all (l .inv .1))
+    let whole = sym (length-jobs s) in
+    (gathered-all (jobsOf s) (l .i) (s .count) all whole (l .inv .1), gathered-ended (jobsOf s) (l .i) (s .count) all whole (l .inv .1))
 
 pub columns-of-spec : {M : Type 1} → statement M
 columns-of-spec =
@@ -126,21 +146,27 @@ columns-of-spec =
     element-copy-out-job
     not-before-requires
     mul-columns
-    element-write-columns
+    index-1-columns
+    index-2-columns
     urgency-requires
     mul-columns-2
-    element-write-columns-2
+    index-1-columns-2
+    index-2-columns-2
     mul-columns-3
-    element-write-columns-3
+    index-1-columns-3
+    index-2-columns-3
     mul-columns-4
-    element-write-columns-4
+    index-1-columns-4
+    index-2-columns-4
     larger-requires
     mul-columns-5
-    element-write-columns-5
+    index-1-columns-5
+    index-2-columns-5
     first-of-requires
     add-columns
     mul-columns-6
-    element-write-columns-6
+    index-1-columns-6
+    index-2-columns-6
     add-ready
     add-i
     loop-less

@@ -12,14 +12,14 @@ columns-of-requires c κs = search needs
 
 by-rule-requires : tie.Need-by-rule-requires
 by-rule-requires c κs =
-    let s = c .before .before .before .before .before .before .before .before in
-    let made = c .before .before .before .before .before .before .before .columns-of in
+    let s = c .before .before in
+    let made = c .before .columns-of in
     (lends (s .args .set) (s .pre) (made .result) (made .ensures .0) .fit, made .ensures .1)
 
 returns : tie.Need-returns
 returns c =
-    let s = c .before .before .before .before .before .before .before .before .before in
-    let made = c .before .before .before .before .before .before .before .before .columns-of in
+    let s = c .before .before .before in
+    let made = c .before .before .columns-of in
     let held = lends (s .args .set) (s .pre) (made .result) (made .ensures .0) in
     c .by-rule .ensures ∙ ap (padded maxJobs 0) (held .by-ert)
 

@@ -2,7 +2,6 @@
 use Prim.Native.Nat.{ℕ, _+_, _*_, _-_, _≤_}
 use mathlib.Core.Path.{_≡_, ap, _∙_}
 use native.Mathlib.Omega.{arith}
-use lib.ListN.{getD}
 use borrow.Author.Needs.{needs}
 use Rattle.jobs.specs.Limits.{maxTime}
 use Rattle.theory.specs.Table.{Table}
@@ -16,40 +15,45 @@ use Rattle.analysis.proofs.ert.by_rule.Statement.{statement}
 use Rattle.analysis.proofs.ert.by_rule.Tie as tie
 
 abbrev Inv-loop : tie.InvT-loop
-Inv-loop count ends chain urgency most earliest latest late₀ bounds₀ last₀ bound₀ i₀ bounds last bound i =
-    Ruled (lent count chain urgency most earliest latest) (interferenceAt (lent count chain urgency most earliest latest)) i last bound bounds
+Inv-loop count columns late₀ bounds₀ last₀ bound₀ i₀ bounds last bound i = Ruled (lent count columns) (interferenceAt (lent count columns)) i last bound bounds
 
 abbrev μ-loop : tie.MeasureT-loop
-μ-loop count ends chain urgency most earliest latest late₀ bounds₀ last₀ bound₀ i₀ bounds last bound i = count - i
+μ-loop count columns late₀ bounds₀ last₀ bound₀ i₀ bounds last bound i = count - i
 
 -- the table of the lent columns
 abbrev table : tie.Start Inv-loop μ-loop → Table
-table s = lent (s .args .count) (s .args .chain .now) (s .args .urgency .now) (s .args .most .now) (s .args .earliest .now) (s .args .latest .now)
+table s = lent (s .args .count) (s .args .columns .now)
 
 -- the interference on the job at a place, as the scan works it out
 abbrev Delay : tie.Start Inv-loop μ-loop → ℕ → ℕ → Type 0
-Delay s i delay = delay ≡ interference (lent (s .args .count) (s .args .chain .now) (s .args .urgency .now) (s .args .most .now) (s .args .earliest .now) (s .args .earliest .now)) (getD (s .args .chain .now) i 0) (getD (s .args .urgency .now) i 0) (spanned (s .args .most .now) (s .args .earliest .now) late 0 boundLimit)
+Delay s i delay = delay ≡ interference (table s) (table s .chain i) (table s .urgency i) (spanned (s .args .columns .now) late 0 boundLimit)
 
 delay-is : (s : tie.Start Inv-loop μ-loop) (i delay : ℕ) → Delay s i delay → delay ≡ interferenceAt (table s) i
-delay-is s i delay e = delay-late (s .args .count) (s .args .chain .now) (s .args .urgency .now) (s .args .most .now) (s .args .earliest .now) (s .args .latest .now) (s .pre .0) i delay e
+delay-is s i delay e = delay-late (s .args .count) (s .args .columns .now) (s .pre .0) i delay e
 
 delay-small : (s : tie.Start Inv-loop μ-loop) (i delay : ℕ) → Delay s i delay → delay ≤ s .args .count * maxTime
-delay-small s i delay e = delay-limit (s .args .count) (s .args .chain .now) (s .args .urgency .now) (s .args .most .now) (s .args .earliest .now) (s .args .latest .now) late (s .pre .0 .mosts) _ _ _ _ delay e
+delay-small s i delay e = delay-limit (s .args .count) (s .args .columns .now) late (s .pre .0 .mosts) _ _ _ _ delay e
 
 loop-holds : tie.Need-loop-holds Inv-loop μ-loop
 loop-holds c = ruled-none (table c) (interferenceAt (table c))
 
+mul-own : tie.Need-mul-own Inv-loop μ-loop
+mul-own c = search needs
+
+index-1-own : tie.Need-index-1-own Inv-loop μ-loop
+index-1-own c = search needs
+
+index-2-own : tie.Need-index-2-own Inv-loop μ-loop
+index-2-own c = search needs
+
 mul-interference : tie.Need-mul-interference Inv-loop μ-loop
 mul-interference c = search needs
 
-element-copy-out-interference : tie.Need-element-copy-out-interference Inv-loop μ-loop
-element-copy-out-interference c = search needs
+index-1-interference : tie.Need-index-1-interference Inv-loop μ-loop
+index-1-interference c = search needs
 
-mul-interference-2 : tie.Need-mul-interference-2 Inv-loop μ-loop
-mul-interference-2 c = search needs
-
-element-copy-out-interference-2 : tie.Need-element-copy-out-interference-2 Inv-loop μ-loop
-element-copy-out-interference-2 c = search needs
+index-2-interference : tie.Need-index-2-interference Inv-loop μ-loop
+index-2-interference c = search needs
 
 interference-requires : tie.Need-interference-requires Inv-loop μ-loop
 interference-requires c κs = search needs
@@ -57,14 +61,11 @@ interference-requires c κs = search needs
 mul-not-before : tie.Need-mul-not-before Inv-loop μ-loop
 mul-not-before c = search needs
 
-element-copy-out-not-before : tie.Need-element-copy-out-not-before Inv-loop μ-loop
-element-copy-out-not-before c = search needs
+index-1-not-before : tie.Need-index-1-not-before Inv-loop μ-loop
+index-1-not-before c = search needs
 
-mul-not-before-2 : tie.Need-mul-not-before-2 Inv-loop μ-loop
-mul-not-before-2 c = search needs
-
-element-copy-out-not-before-2 : tie.Need-element-copy-out-not-before-2 Inv-loop μ-loop
-element-copy-out-not-before-2 c = search needs
+index-2-not-before : tie.Need-index-2-not-before Inv-loop μ-loop
+index-2-not-before c = search needs
 
 not-before-requires : tie.Need-not-before-requires Inv-loop μ-loop
 not-before-requires c κs = search needs
@@ -72,36 +73,33 @@ not-before-requires c κs = search needs
 mul-bound : tie.Need-mul-bound Inv-loop μ-loop
 mul-bound c = search needs
 
-element-copy-out-bound : tie.Need-element-copy-out-bound Inv-loop μ-loop
-element-copy-out-bound c = search needs
+index-1-bound : tie.Need-index-1-bound Inv-loop μ-loop
+index-1-bound c = search needs
+
+index-2-bound : tie.Need-index-2-bound Inv-loop μ-loop
+index-2-bound c = search needs
 
 add-bound : tie.Need-add-bound Inv-loop μ-loop
 add-bound c =
-    let s = c .before .before .before .before .before .before .before .before .before .before in
-    let l = c .before .before .before .before .before .before .before .before .before .loop in
-    let h = c .before .before .before .before .before .before .before .before .loop-test .taken in
+    let s = c .before .before .before .before .before .before .before .before .before in
+    let l = c .before .before .before .before .before .before .before .before .loop in
+    let h = c .before .before .before .before .before .before .before .loop-test .taken in
     let time = ruled-time (table s) (interferenceAt (table s)) (s .pre .0) (l .inv) h (c .before .not-before .result) (c .before .not-before .ensures) in
     search (needs, time, s .pre .0 .mosts (l .i) h, s .pre .0 .few, h)
 
 add-bound-2 : tie.Need-add-bound-2 Inv-loop μ-loop
 add-bound-2 c =
-    let s = c .before .before .before .before .before .before .before .before .before .before in
-    let l = c .before .before .before .before .before .before .before .before .before .loop in
-    let h = c .before .before .before .before .before .before .before .before .loop-test .taken in
+    let s = c .before .before .before .before .before .before .before .before .before in
+    let l = c .before .before .before .before .before .before .before .before .loop in
+    let h = c .before .before .before .before .before .before .before .loop-test .taken in
     let time = ruled-time (table s) (interferenceAt (table s)) (s .pre .0) (l .inv) h (c .before .not-before .result) (c .before .not-before .ensures) in
-    search (needs, time, s .pre .0 .mosts (l .i) h, s .pre .0 .few, h, delay-small s (l .i) (c .before .before .before .before .interference .result) (c .before .before .before .before .interference .ensures))
+    search (needs, time, s .pre .0 .mosts (l .i) h, s .pre .0 .few, h, delay-small s (l .i) (c .before .before .before .interference .result) (c .before .before .before .interference .ensures))
 
 mul-bounds : tie.Need-mul-bounds Inv-loop μ-loop
 mul-bounds c = search needs
 
 array-write-bounds : tie.Need-array-write-bounds Inv-loop μ-loop
 array-write-bounds c = search needs
-
-mul-last : tie.Need-mul-last Inv-loop μ-loop
-mul-last c = search needs
-
-element-copy-out-last : tie.Need-element-copy-out-last Inv-loop μ-loop
-element-copy-out-last c = search needs
 
 add-i : tie.Need-add-i Inv-loop μ-loop
 add-i c = search needs
@@ -111,15 +109,15 @@ loop-less c = search needs
 
 loop-again : tie.Need-loop-again Inv-loop μ-loop
 loop-again c =
-    let s = c .before .before .before .before .before .before .before .before .before .before .before in
-    let l = c .before .before .before .before .before .before .before .before .before .before .loop in
-    let h = c .before .before .before .before .before .before .before .before .before .loop-test .taken in
-    let delay = c .before .before .before .before .before .interference .result in
-    let is = delay-is s (l .i) delay (c .before .before .before .before .before .interference .ensures) in
+    let s = c .before .before .before .before .before .before .before .before .before in
+    let l = c .before .before .before .before .before .before .before .before .loop in
+    let h = c .before .before .before .before .before .before .before .loop-test .taken in
+    let delay = c .before .before .before .interference .result in
+    let is = delay-is s (l .i) delay (c .before .before .before .interference .ensures) in
     let next =
-    ruled-next (table s) (interferenceAt (table s)) (s .pre .0) (l .inv) h (c .before .before .not-before .result) _ (c .before .before .not-before .ensures)
-    (omega (arith, is, delay-small s (l .i) delay (c .before .before .before .before .before .interference .ensures)))
-    (ap (λ (d : ℕ). c .before .before .not-before .result + getD (s .args .most .now) (l .i) 0 + d) is)
+    ruled-next (table s) (interferenceAt (table s)) (s .pre .0) (l .inv) h (c .before .not-before .result) _ (c .before .not-before .ensures)
+    (omega (arith, is, delay-small s (l .i) delay (c .before .before .before .interference .ensures)))
+    (ap (λ (d : ℕ). c .before .not-before .result + table s .most (l .i) + d) is)
     in
     record {
       inside = next .inside;
@@ -144,24 +142,24 @@ by-rule-spec =
     Inv-loop
     μ-loop
     loop-holds
+    mul-own
+    index-1-own
+    index-2-own
     mul-interference
-    element-copy-out-interference
-    mul-interference-2
-    element-copy-out-interference-2
+    index-1-interference
+    index-2-interference
     interference-requires
     mul-not-before
-    element-copy-out-not-before
-    mul-not-before-2
-    element-copy-out-not-before-2
+    index-1-not-before
+    index-2-not-before
     not-before-requires
     mul-bound
-    element-copy-out-bound
+    index-1-bound
+    index-2-bound
     add-bound
     add-bound-2
     mul-bounds
     array-write-bounds
-    mul-last
-    element-copy-out-last
     add-i
     loop-less
     loop-again

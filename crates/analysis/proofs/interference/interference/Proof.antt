@@ -8,7 +8,7 @@ use lib.ListN.{getD}
 use borrow.Author.Needs.{needs}
 use Rattle.jobs.specs.Limits.{maxTime}
 use Rattle.theory.specs.Table.{Table}
-use Rattle.theory.proofs.Columns.{lent}
+use Rattle.theory.proofs.Columns.{figure, lent}
 use Rattle.theory.proofs.Weights.{spanned, weight-le}
 use Rattle.theory.proofs.Stretches.{largestOver}
 use Rattle.theory.proofs.Endings.{EndsAt}
@@ -17,32 +17,31 @@ use Rattle.analysis.proofs.interference.interference.Statement.{stateme
 use Rattle.analysis.proofs.interference.interference.Tie as tie
 
 abbrev Inv-loop : tie.InvT-loop
-Inv-loop count ends chain urgency most earliest bound own target from to total₀ i₀ total i =
-    Shared (lent count chain urgency most earliest earliest) own target (spanned most earliest bound from to) maxTime i total
+Inv-loop count columns bound own target from to total₀ i₀ total i = Shared (lent count columns) own target (spanned columns bound from to) maxTime i total
 
 abbrev μ-loop : tie.MeasureT-loop
-μ-loop count ends chain urgency most earliest bound own target from to total₀ i₀ total i = count - i
+μ-loop count columns bound own target from to total₀ i₀ total i = count - i
 
 -- the table of the lent columns, and what each job counts
 abbrev table : tie.Start Inv-loop μ-loop → Table
-table s = lent (s .args .count) (s .args .chain .now) (s .args .urgency .now) (s .args .most .now) (s .args .earliest .now) (s .args .earliest .now)
+table s = lent (s .args .count) (s .args .columns .now)
 
 abbrev counts : tie.Start Inv-loop μ-loop → ℕ → ℕ
-counts s = spanned (s .args .most .now) (s .args .earliest .now) (s .args .bound .now) (s .args .from) (s .args .to)
+counts s = spanned (s .args .columns .now) (s .args .bound .now) (s .args .from) (s .args .to)
 
 counts-limit : (s : tie.Start Inv-loop μ-loop) (i : ℕ) → i < s .args .count → counts s i ≤ maxTime
-counts-limit s i l = omega (arith, s .pre .0 .mosts i l, weight-le (s .args .from) (s .args .to) (getD (s .args .most .now) i 0) (getD (s .args .earliest .now) i 0) (getD (s .args .bound .now) i 0))
+counts-limit s i l = omega (arith, s .pre .0 .mosts i l, weight-le (s .args .from) (s .args .to) (table s .most i) (table s .earliest i) (getD (s .args .bound .now) i 0))
 
 -- the end of the chain at the loop's head
 abbrev end-at : tie.At-loop Inv-loop μ-loop → ℕ
-end-at l = getD (l .before .args .ends .now) (l .loop .i) 0
+end-at l = figure (l .before .args .columns .now) 5 (l .loop .i)
 
 module _ (l : tie.At-loop Inv-loop μ-loop) (h : l .loop .i < l .before .args .count) where
-  chain-ends : EndsAt (l .before .args .count) (λ u. getD (l .before .args .chain .now) u 0) (l .loop .i) (end-at l)
+  chain-ends : EndsAt (l .before .args .count) (table (l .before) .chain) (l .loop .i) (end-at l)
   chain-ends = l .before .pre .1 (l .loop .i) h (l .loop .inv .first h)
 
   shared-at : (y : ℕ)
-      → y ≡ cond (eqb (getD (l .before .args .chain .now) (l .loop .i) 0) (l .before .args .own)) 0 (largestOver (λ u. getD (l .before .args .urgency .now) u 0) (l .before .args .target) (counts (l .before)) (l .loop .i) (end-at l - l .loop .i))
+      → y ≡ cond (eqb (table (l .before) .chain (l .loop .i)) (l .before .args .own)) 0 (largestOver (table (l .before) .urgency) (l .before .args .target) (counts (l .before)) (l .loop .i) (end-at l - l .loop .i))
       → Shared (table (l .before)) (l .before .args .own) (l .before .args .target) (counts (l .before)) maxTime (end-at l) (l .loop .total + y)
   shared-at y e =
       let s = l .before in
@@ -55,14 +54,20 @@ loop-holds c = shared-none (table c) (c .args .own) (c .args .target) (counts c)
 mul-end : tie.Need-mul-end Inv-loop μ-loop
 mul-end c = search needs
 
-element-copy-out-end : tie.Need-element-copy-out-end Inv-loop μ-loop
-element-copy-out-end c = search needs
+index-1-end : tie.Need-index-1-end Inv-loop μ-loop
+index-1-end c = search needs
+
+index-2-end : tie.Need-index-2-end Inv-loop μ-loop
+index-2-end c = search needs
 
 mul-share : tie.Need-mul-share Inv-loop μ-loop
 mul-share c = search needs
 
-element-copy-out-share : tie.Need-element-copy-out-share Inv-loop μ-loop
-element-copy-out-share c = search needs
+index-1-share : tie.Need-index-1-share Inv-loop μ-loop
+index-1-share c = search needs
+
+index-2-share : tie.Need-index-2-share Inv-loop μ-loop
+index-2-share c = search needs
 
 share-requires : tie.Need-share-requires Inv-loop μ-loop
 share-requires c κs =
@@ -99,9 +104,11 @@ interference-spec =
     μ-loop
     loop-holds
     mul-end
-    element-copy-out-end
+    index-1-end
+    index-2-end
     mul-share
-    element-copy-out-share
+    index-1-share
+    index-2-share
     share-requires
     add-total
     loop-less

@@ -11,14 +11,14 @@ columns-of-requires c κs = search needs
 
 settle-requires : tie.Need-settle-requires
 settle-requires c κs =
-    let s = c .before .before .before .before .before .before .before .before in
-    let made = c .before .before .before .before .before .before .before .columns-of in
+    let s = c .before .before in
+    let made = c .before .columns-of in
     (lends (s .args .set) (s .pre) (made .result) (made .ensures .0) .fit, made .ensures .1)
 
 returns : tie.Need-returns
 returns c =
-    let s = c .before .before .before .before .before .before .before .before .before in
-    let made = c .before .before .before .before .before .before .before .before .columns-of in
+    let s = c .before .before .before in
+    let made = c .before .before .columns-of in
     let held = lends (s .args .set) (s .pre) (made .result) (made .ensures .0) in
     c .settle .ensures ∙ ap itrPassed (held .by-itr)
 

@@ -12,14 +12,14 @@ use Rattle.analysis.proofs.itr.settle.Statement.{statement}
 use Rattle.analysis.proofs.itr.settle.Tie as tie
 
 abbrev Inv-loop : tie.InvT-loop
-Inv-loop count ends chain urgency most earliest latest bounds₀ rounds₀ bounds rounds = Rounding (lent count chain urgency most earliest latest) bounds rounds
+Inv-loop count columns bounds₀ rounds₀ bounds rounds = Rounding (lent count columns) bounds rounds
 
 abbrev μ-loop : tie.MeasureT-loop
-μ-loop count ends chain urgency most earliest latest bounds₀ rounds₀ bounds rounds = itr (lent count chain urgency most earliest latest) .rounds - rounds
+μ-loop count columns bounds₀ rounds₀ bounds rounds = itr (lent count columns) .rounds - rounds
 
 -- the table of the lent columns
 abbrev table : tie.Start Inv-loop μ-loop → Table
-table s = lent (s .args .count) (s .args .chain .now) (s .args .urgency .now) (s .args .most .now) (s .args .earliest .now) (s .args .latest .now)
+table s = lent (s .args .count) (s .args .columns .now)
 
 start-requires : tie.Need-start-requires Inv-loop μ-loop
 start-requires c κs = search needs

@@ -11,15 +11,14 @@ use Rattle.analysis.proofs.itr.start.Statement.{statement}
 use Rattle.analysis.proofs.itr.start.Tie as tie
 
 abbrev Inv-loop : tie.InvT-loop
-Inv-loop count chain urgency most earliest latest bounds₀ last₀ bound₀ i₀ bounds last bound i =
-    Ruled (lent count chain urgency most earliest latest) (λ k. 0) i last bound bounds
+Inv-loop count columns bounds₀ last₀ bound₀ i₀ bounds last bound i = Ruled (lent count columns) (λ k. 0) i last bound bounds
 
 abbrev μ-loop : tie.MeasureT-loop
-μ-loop count chain urgency most earliest latest bounds₀ last₀ bound₀ i₀ bounds last bound i = count - i
+μ-loop count columns bounds₀ last₀ bound₀ i₀ bounds last bound i = count - i
 
 -- the table of the lent columns
 abbrev table : tie.Start Inv-loop μ-loop → Table
-table s = lent (s .args .count) (s .args .chain .now) (s .args .urgency .now) (s .args .most .now) (s .args .earliest .now) (s .args .latest .now)
+table s = lent (s .args .count) (s .args .columns .now)
 
 abbrev none : ℕ → ℕ
 none i = 0
@@ -27,17 +26,23 @@ none i = 0
 loop-holds : tie.Need-loop-holds Inv-loop μ-loop
 loop-holds c = ruled-none (table c) none
 
+mul-own : tie.Need-mul-own Inv-loop μ-loop
+mul-own c = search needs
+
+index-1-own : tie.Need-index-1-own Inv-loop μ-loop
+index-1-own c = search needs
+
+index-2-own : tie.Need-index-2-own Inv-loop μ-loop
+index-2-own c = search needs
+
 mul-not-before : tie.Need-mul-not-before Inv-loop μ-loop
 mul-not-before c = search needs
 
-element-copy-out-not-before : tie.Need-element-copy-out-not-before Inv-loop μ-loop
-element-copy-out-not-before c = search needs
+index-1-not-before : tie.Need-index-1-not-before Inv-loop μ-loop
+index-1-not-before c = search needs
 
-mul-not-before-2 : tie.Need-mul-not-before-2 Inv-loop μ-loop
-mul-not-before-2 c = search needs
-
-element-copy-out-not-before-2 : tie.Need-element-copy-out-not-before-2 Inv-loop μ-loop
-element-copy-out-not-before-2 c = search needs
+index-2-not-before : tie.Need-index-2-not-before Inv-loop μ-loop
+index-2-not-before c = search needs
 
 not-before-requires : tie.Need-not-before-requires Inv-loop μ-loop
 not-before-requires c κs = search needs
@@ -45,8 +50,11 @@ not-before-requires c κs = search needs
 mul-bound : tie.Need-mul-bound Inv-loop μ-loop
 mul-bound c = search needs
 
-element-copy-out-bound : tie.Need-element-copy-out-bound Inv-loop μ-loop
-element-copy-out-bound c = search needs
+index-1-bound : tie.Need-index-1-bound Inv-loop μ-loop
+index-1-bound c = search needs
+
+index-2-bound : tie.Need-index-2-bound Inv-loop μ-loop
+index-2-bound c = search needs
 
 add-bound : tie.Need-add-bound Inv-loop μ-loop
 add-bound c =
@@ -61,12 +69,6 @@ mul-bounds c = search needs
 array-write-bounds : tie.Need-array-write-bounds Inv-loop μ-loop
 array-write-bounds c = search needs
 
-mul-last : tie.Need-mul-last Inv-loop μ-loop
-mul-last c = search needs
-
-element-copy-out-last : tie.Need-element-copy-out-last Inv-loop μ-loop
-element-copy-out-last c = search needs
-
 add-i : tie.Need-add-i Inv-loop μ-loop
 add-i c = search needs
 
@@ -75,9 +77,9 @@ loop-less c = search needs
 
 loop-again : tie.Need-loop-again Inv-loop μ-loop
 loop-again c =
-    let s = c .before .before .before .before .before .before .before in
-    let l = c .before .before .before .before .before .before .loop in
-    ruled-next (table s) none (s .pre) (l .inv) (c .before .before .before .before .before .loop-test .taken) (c .before .before .not-before .result) _ (c .before .before .not-before .ensures) (omega arith) (omega arith)
+    let s = c .before .before .before .before .before .before in
+    let l = c .before .before .before .before .before .loop in
+    ruled-next (table s) none (s .pre) (l .inv) (c .before .before .before .before .loop-test .taken) (c .before .not-before .result) _ (c .before .not-before .ensures) (omega arith) (omega arith)
 
 returns : tie.Need-returns Inv-loop μ-loop
 unfolding itrStart
@@ -94,18 +96,19 @@ start-spec =
     Inv-loop
     μ-loop
     loop-holds
+    mul-own
+    index-1-own
+    index-2-own
     mul-not-before
-    element-copy-out-not-before
-    mul-not-before-2
-    element-copy-out-not-before-2
+    index-1-not-before
+    index-2-not-before
     not-before-requires
     mul-bound
-    element-copy-out-bound
+    index-1-bound
+    index-2-bound
     add-bound
     mul-bounds
     array-write-bounds
-    mul-last
-    element-copy-out-last
     add-i
     loop-less
     loop-again

@@ -4,7 +4,6 @@ use mathlib.Core.Path.{_≡_}
 use mathlib.Core.Bool.{Bool}
 use native.Mathlib.Numerals.{add-one}
 use native.Mathlib.Omega.{arith}
-use lib.ListN.{getD}
 use borrow.Author.Needs.{needs}
 use Rattle.jobs.specs.Limits.{maxTime}
 use Rattle.theory.specs.Bounds.{interference, overlap}
@@ -16,15 +15,14 @@ use Rattle.analysis.proofs.pair.largest_pair.Statement.{statement}
 use Rattle.analysis.proofs.pair.largest_pair.Tie as tie
 
 abbrev Inv-loop : tie.InvT-loop
-Inv-loop count ends chain urgency most earliest latest bound j own to sum₀ low₀ best₀ k₀ sum low best k =
-    Walked (lent count chain urgency most earliest latest) (overlap (lent count chain urgency most earliest latest) bound) maxTime j k sum low best
+Inv-loop count columns bound j own to sum₀ low₀ best₀ k₀ sum low best k = Walked (lent count columns) (overlap (lent count columns) bound) maxTime j k sum low best
 
 abbrev μ-loop : tie.MeasureT-loop
-μ-loop count ends chain urgency most earliest latest bound j own to sum₀ low₀ best₀ k₀ sum low best k = k
+μ-loop count columns bound j own to sum₀ low₀ best₀ k₀ sum low best k = k
 
 -- the table of the lent columns
 abbrev table : tie.Start Inv-loop μ-loop → Table
-table s = lent (s .args .count) (s .args .chain .now) (s .args .urgency .now) (s .args .most .now) (s .args .earliest .now) (s .args .latest .now)
+table s = lent (s .args .count) (s .args .columns .now)
 
 abbrev keep : tie.Start Inv-loop μ-loop → ℕ → ℕ → ℕ → Bool
 keep s = overlap (table s) (s .args .bound .now)
@@ -33,14 +31,17 @@ keep s = overlap (table s) (s .args .bound .now)
 abbrev previous : (l : tie.At-loop Inv-loop μ-loop) → 0 < l .loop .k → l .loop .k ≡ suc (l .loop .k - 1)
 previous l h = omega arith
 
-abbrev delay-small : (s : tie.Start Inv-loop μ-loop) (low from to delay : ℕ) → delay ≡ interference (lent (s .args .count) (s .args .chain .now) (s .args .urgency .now) (s .args .most .now) (s .args .earliest .now) (s .args .earliest .now)) (getD (s .args .chain .now) (s .args .j) 0) low (spanned (s .args .most .now) (s .args .earliest .now) (s .args .bound .now) from to) → delay ≤ s .args .count * maxTime
-delay-small s low from to delay e = delay-limit (s .args .count) (s .args .chain .now) (s .args .urgency .now) (s .args .most .now) (s .args .earliest .now) (s .args .latest .now) (s .args .bound .now) (s .pre .0 .mosts) _ low from to delay e
+abbrev delay-small : (s : tie.Start Inv-loop μ-loop) (low from to delay : ℕ) → delay ≡ interference (table s) (table s .chain (s .args .j)) low (spanned (s .args .columns .now) (s .args .bound .now) from to) → delay ≤ s .args .count * maxTime
+delay-small s low from to delay e = delay-limit (s .args .count) (s .args .columns .now) (s .args .bound .now) (s .pre .0 .mosts) _ low from to delay e
 
 mul-own : tie.Need-mul-own Inv-loop μ-loop
 mul-own c = search needs
 
-element-copy-out-own : tie.Need-element-copy-out-own Inv-loop μ-loop
-element-copy-out-own c = search needs
+index-1-own : tie.Need-index-1-own Inv-loop μ-loop
+index-1-own c = search needs
+
+index-2-own : tie.Need-index-2-own Inv-loop μ-loop
+index-2-own c = search needs
 
 mul-to : tie.Need-mul-to Inv-loop μ-loop
 mul-to c = search needs
@@ -51,8 +52,11 @@ element-copy-out-to c = search needs
 mul-low : tie.Need-mul-low Inv-loop μ-loop
 mul-low c = search needs
 
-element-copy-out-low : tie.Need-element-copy-out-low Inv-loop μ-loop
-element-copy-out-low c = search needs
+index-1-low : tie.Need-index-1-low Inv-loop μ-loop
+index-1-low c = search needs
+
+index-2-low : tie.Need-index-2-low Inv-loop μ-loop
+index-2-low c = search needs
 
 add-k : tie.Need-add-k Inv-loop μ-loop
 add-k c = search needs
@@ -66,8 +70,11 @@ sub-k c = search needs
 mul-if1 : tie.Need-mul-if1 Inv-loop μ-loop
 mul-if1 c = search needs
 
-element-copy-out-if1 : tie.Need-element-copy-out-if1 Inv-loop μ-loop
-element-copy-out-if1 c = search needs
+index-1-if1 : tie.Need-index-1-if1 Inv-loop μ-loop
+index-1-if1 c = search needs
+
+index-2-if1 : tie.Need-index-2-if1 Inv-loop μ-loop
+index-2-if1 c = search needs
 
 returns : tie.Need-returns Inv-loop μ-loop
 returns c =
@@ -79,8 +86,11 @@ returns c =
 mul-sum : tie.Need-mul-sum Inv-loop μ-loop
 mul-sum c = search needs
 
-element-copy-out-sum : tie.Need-element-copy-out-sum Inv-loop μ-loop
-element-copy-out-sum c = search needs
+index-1-sum : tie.Need-index-1-sum Inv-loop μ-loop
+index-1-sum c = search needs
+
+index-2-sum : tie.Need-index-2-sum Inv-loop μ-loop
+index-2-sum c = search needs
 
 add-sum : tie.Need-add-sum Inv-loop μ-loop
 add-sum c =
@@ -91,8 +101,11 @@ add-sum c =
 mul-lower : tie.Need-mul-lower Inv-loop μ-loop
 mul-lower c = search needs
 
-element-copy-out-lower : tie.Need-element-copy-out-lower Inv-loop μ-loop
-element-copy-out-lower c = search needs
+index-1-lower : tie.Need-index-1-lower Inv-loop μ-loop
+index-1-lower c = search needs
+
+index-2-lower : tie.Need-index-2-lower Inv-loop μ-loop
+index-2-lower c = search needs
 
 lower-requires : tie.Need-lower-requires Inv-loop μ-loop
 lower-requires c κs = search needs
@@ -100,8 +113,11 @@ lower-requires c κs = search needs
 mul-interference : tie.Need-mul-interference Inv-loop μ-loop
 mul-interference c = search needs
 
-element-copy-out-interference : tie.Need-element-copy-out-interference Inv-loop μ-loop
-element-copy-out-interference c = search needs
+index-1-interference : tie.Need-index-1-interference Inv-loop μ-loop
+index-1-interference c = search needs
+
+index-2-interference : tie.Need-index-2-interference Inv-loop μ-loop
+index-2-interference c = search needs
 
 interference-requires : tie.Need-interference-requires Inv-loop μ-loop
 interference-requires c κs = search needs
@@ -109,8 +125,11 @@ interference-requires c κs = search needs
 mul-larger : tie.Need-mul-larger Inv-loop μ-loop
 mul-larger c = search needs
 
-element-copy-out-larger : tie.Need-element-copy-out-larger Inv-loop μ-loop
-element-copy-out-larger c = search needs
+index-1-larger : tie.Need-index-1-larger Inv-loop μ-loop
+index-1-larger c = search needs
+
+index-2-larger : tie.Need-index-2-larger Inv-loop μ-loop
+index-2-larger c = search needs
 
 add-larger : tie.Need-add-larger Inv-loop μ-loop
 add-larger c =
@@ -141,7 +160,7 @@ loop-again c =
     let i : l .k - 1 < s .args .count = omega (arith, l .inv .inside, s .pre .2, c .before .before .before .before .before .before .before .before .before .loop-test .taken) in
     let low = walked-low (table s) (s .args .j) (keep s) maxTime (l .inv) e (c .before .before .before .before .lower .result) (c .before .before .before .before .lower .ensures) in
     walked-next (table s) (s .args .j) (keep s) maxTime (l .inv) e (c .before .before .before .before .lower .result) _ (c .larger .result) (c .before .before .before .before .before .before .before .if1 .left) (s .pre .0 .mosts (l .k - 1) i) (c .before .before .before .before .lower .ensures)
-    (pair-is (s .args .count) (s .args .chain .now) (s .args .urgency .now) (s .args .most .now) (s .args .earliest .now) (s .args .latest .now) (s .args .bound .now) (l .k - 1) (s .args .j) _ _ _ (omega (arith, l .inv .inside)) (walked-sum (table s) (s .args .j) (keep s) maxTime (l .inv) e) low (c .before .before .interference .ensures))
+    (pair-is (s .args .count) (s .args .columns .now) (s .args .bound .now) (l .k - 1) (s .args .j) _ _ _ (omega (arith, l .inv .inside)) (walked-sum (table s) (s .args .j) (keep s) maxTime (l .inv) e) low (c .before .before .interference .ensures))
     (c .larger .ensures)
 
 returns-2 : tie.Need-returns-2 Inv-loop μ-loop
@@ -154,28 +173,35 @@ largest-pair-spec =
     Inv-loop
     μ-loop
     mul-own
-    element-copy-out-own
+    index-1-own
+    index-2-own
     mul-to
     element-copy-out-to
     mul-low
-    element-copy-out-low
+    index-1-low
+    index-2-low
     add-k
     loop-holds
     sub-k
     mul-if1
-    element-copy-out-if1
+    index-1-if1
+    index-2-if1
     returns
     mul-sum
-    element-copy-out-sum
+    index-1-sum
+    index-2-sum
     add-sum
     mul-lower
-    element-copy-out-lower
+    index-1-lower
+    index-2-lower
     lower-requires
     mul-interference
-    element-copy-out-interference
+    index-1-interference
+    index-2-interference
     interference-requires
     mul-larger
-    element-copy-out-larger
+    index-1-larger
+    index-2-larger
     add-larger
     add-larger-2
     larger-requires

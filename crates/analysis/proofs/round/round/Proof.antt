@@ -13,15 +13,15 @@ use Rattle.analysis.proofs.round.round.Statement.{statement}
 use Rattle.analysis.proofs.round.round.Tie as tie
 
 abbrev Inv-loop : tie.InvT-loop
-Inv-loop count ends chain urgency most earliest latest bound next₀ j₀ next j =
-    (j ≤ count) × (next ≡ column j (roundAt (lent count chain urgency most earliest latest) bound))
+Inv-loop count columns bound next₀ j₀ next j =
+    (j ≤ count) × (next ≡ column j (roundAt (lent count columns) bound))
 
 abbrev μ-loop : tie.MeasureT-loop
-μ-loop count ends chain urgency most earliest latest bound next₀ j₀ next j = count - j
+μ-loop count columns bound next₀ j₀ next j = count - j
 
 -- the table of the lent columns
 abbrev table : tie.Start Inv-loop μ-loop → Table
-table s = lent (s .args .count) (s .args .chain .now) (s .args .urgency .now) (s .args .most .now) (s .args .earliest .now) (s .args .latest .now)
+table s = lent (s .args .count) (s .args .columns .now)
 
 loop-holds : tie.Need-loop-holds Inv-loop μ-loop
 loop-holds c = (omega arith, c .pre .2 ∙ filled-none maxJobs 0 _)
