@@ -6,6 +6,7 @@ use crate::columns::Columns;
 use crate::columns::EARLIEST;
 use crate::columns::MOST;
 use crate::columns::URGENCY;
+use crate::columns::figure;
 use crate::number::larger;
 use jobs::set::JobSet;
 
@@ -47,8 +48,14 @@ fn largest_block<'a, 'b>(
     let mut largest: u64 = 0;
     let mut i = first;
     while i < end {
-        let counts = weight(from, to, columns[MOST][i], columns[EARLIEST][i], bound[i]);
-        block = opened(block, target, columns[URGENCY][i], counts);
+        let counts = weight(
+            from,
+            to,
+            figure(columns, MOST, i),
+            figure(columns, EARLIEST, i),
+            bound[i],
+        );
+        block = opened(block, target, figure(columns, URGENCY, i), counts);
         largest = larger(largest, block);
         i += 1;
     }

@@ -11,6 +11,7 @@ use crate::columns::LATEST;
 use crate::columns::MOST;
 use crate::columns::URGENCY;
 use crate::columns::columns_of;
+use crate::columns::figure;
 use crate::interference::interference;
 use crate::predecessor::not_before;
 use jobs::check::check;
@@ -28,17 +29,19 @@ fn by_rule<'a>(count: usize, columns: &'a Columns) -> [u64; JobSet::MAX_JOBS]
     let mut bound: u64 = 0;
     let mut i: usize = 0;
     while i < count {
-        let own = columns[CHAIN][i];
+        let own = figure(columns, CHAIN, i);
         let delay = interference(
             count,
             columns,
             &late,
             own,
-            columns[URGENCY][i],
+            figure(columns, URGENCY, i),
             0,
             Bounds::LIMIT,
         );
-        bound = not_before(last, own, columns[LATEST][i], bound) + columns[MOST][i] + delay;
+        bound = not_before(last, own, figure(columns, LATEST, i), bound)
+            + figure(columns, MOST, i)
+            + delay;
         bounds[i] = bound;
         last = own;
         i += 1;

@@ -6,6 +6,7 @@ use crate::block::share;
 use crate::columns::CHAIN;
 use crate::columns::Columns;
 use crate::columns::END;
+use crate::columns::figure;
 use jobs::set::JobSet;
 
 // The interference on a target of chain `own` in the pair whose span is open at `from` and closed at `to`.
@@ -24,10 +25,10 @@ pub(crate) fn interference<'a, 'b>(
     let mut total: u64 = 0;
     let mut i: usize = 0;
     while i < count {
-        let end = columns[END][i] as usize;
+        let end = figure(columns, END, i) as usize;
         total += share(
             own,
-            columns[CHAIN][i],
+            figure(columns, CHAIN, i),
             i,
             end,
             columns,

@@ -10,6 +10,7 @@ use crate::columns::Columns;
 use crate::columns::LATEST;
 use crate::columns::MOST;
 use crate::columns::columns_of;
+use crate::columns::figure;
 use crate::predecessor::not_before;
 use crate::round::round;
 use jobs::check::check;
@@ -26,8 +27,8 @@ fn start<'a>(count: usize, columns: &'a Columns) -> [u64; JobSet::MAX_JOBS]
     let mut bound: u64 = 0;
     let mut i: usize = 0;
     while i < count {
-        let own = columns[CHAIN][i];
-        bound = not_before(last, own, columns[LATEST][i], bound) + columns[MOST][i];
+        let own = figure(columns, CHAIN, i);
+        bound = not_before(last, own, figure(columns, LATEST, i), bound) + figure(columns, MOST, i);
         bounds[i] = bound;
         last = own;
         i += 1;

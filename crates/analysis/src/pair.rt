@@ -7,6 +7,7 @@ use crate::columns::EARLIEST;
 use crate::columns::LATEST;
 use crate::columns::MOST;
 use crate::columns::URGENCY;
+use crate::columns::figure;
 use crate::interference::interference;
 use crate::number::larger;
 use crate::number::lower;
@@ -22,21 +23,29 @@ pub(crate) fn largest_pair<'a, 'b>(
     requires { ⌜ Fit (lent count (now columns)) × Ended count (now columns) × (j < count) ⌝ }
     ensures { λ r. ⌜ r ≡ roundAt (lent count (now (columns .entry))) (now (bound .entry)) j ⌝ }
 {
-    let own = columns[CHAIN][j];
+    let own = figure(columns, CHAIN, j);
     let to = bound[j];
     let mut sum: u64 = 0;
-    let mut low = columns[URGENCY][j];
+    let mut low = figure(columns, URGENCY, j);
     let mut best: u64 = 0;
     let mut k = j + 1;
     while 0 < k {
         k -= 1;
-        if columns[CHAIN][k] != own {
+        if figure(columns, CHAIN, k) != own {
             return best;
         }
-        sum += columns[MOST][k];
-        low = lower(low, columns[URGENCY][k]);
-        let delay = interference(count, columns, bound, own, low, columns[EARLIEST][k], to);
-        best = larger(best, columns[LATEST][k] + sum + delay);
+        sum += figure(columns, MOST, k);
+        low = lower(low, figure(columns, URGENCY, k));
+        let delay = interference(
+            count,
+            columns,
+            bound,
+            own,
+            low,
+            figure(columns, EARLIEST, k),
+            to,
+        );
+        best = larger(best, figure(columns, LATEST, k) + sum + delay);
     }
     best
 }

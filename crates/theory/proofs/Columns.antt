@@ -7,6 +7,10 @@ use Rattle.laws.specs.Words.{tabulate, padded}
 use Rattle.jobs.specs.Limits.{maxJobs, maxRelease, maxTime}
 use Rattle.theory.specs.Table.{Table}
 
+-- How many columns there are.
+abbrev pub columnCount : ℕ
+columnCount = 6
+
 -- The figure at place i of column k.
 abbrev pub figure : List (List ℕ) → ℕ → ℕ → ℕ
 figure columns k i = getD (getD columns k []) i 0

@@ -1,6 +1,6 @@
 -- `largest_block` answers `largestOver`. The loop's invariant: the blocks up to place i are behind it. Assumes nothing.
 use Prim.Native.Nat.{ℕ, _-_, _≤_, _<_}
-use mathlib.Core.Path.{ap, _∙_}
+use mathlib.Core.Path.{_≡_, _∙_}
 use native.Mathlib.Omega.{arith}
 use lib.ListN.{getD}
 use borrow.Author.Needs.{needs}
@@ -29,29 +29,21 @@ counts s = spanned (s .args .columns .now) (s .args .bound .now) (s .args .from)
 counts-limit : (s : tie.Start Inv-loop μ-loop) (i : ℕ) → i < s .args .end → counts s i ≤ maxTime
 counts-limit s i l = omega (arith, s .pre .2 i l, weight-le (s .args .from) (s .args .to) (table s .most i) (table s .earliest i) (getD (s .args .bound .now) i 0))
 
+-- what is counted of the job at hand
+weighed : (c : tie.After-weight Inv-loop μ-loop) → c .weight .result ≡ counts (c .before .before .before .before .before .before) (c .before .before .before .before .before .loop .i)
+weighed c = c .weight .ensures ∙ rw (c .before .before .figure2 .ensures, c .before .before .before .figure .ensures)
+
 loop-holds : tie.Need-loop-holds Inv-loop μ-loop
 loop-holds c = blocked-none _ (c .args .target) (counts c) (c .args .first) (c .args .end) (c .pre .0)
 
+figure-requires : tie.Need-figure-requires Inv-loop μ-loop
+figure-requires c κs = search needs
+
+figure-requires-2 : tie.Need-figure-requires-2 Inv-loop μ-loop
+figure-requires-2 c κs = search needs
+
 mul-weight : tie.Need-mul-weight Inv-loop μ-loop
 mul-weight c = search needs
-
-index-1-weight : tie.Need-index-1-weight Inv-loop μ-loop
-index-1-weight c = search needs
-
-index-2-weight : tie.Need-index-2-weight Inv-loop μ-loop
-index-2-weight c = search needs
-
-mul-weight-2 : tie.Need-mul-weight-2 Inv-loop μ-loop
-mul-weight-2 c = search needs
-
-index-1-weight-2 : tie.Need-index-1-weight-2 Inv-loop μ-loop
-index-1-weight-2 c = search needs
-
-index-2-weight-2 : tie.Need-index-2-weight-2 Inv-loop μ-loop
-index-2-weight-2 c = search needs
-
-mul-weight-3 : tie.Need-mul-weight-3 Inv-loop μ-loop
-mul-weight-3 c = search needs
 
 element-copy-out-weight : tie.Need-element-copy-out-weight Inv-loop μ-loop
 element-copy-out-weight c = search needs
@@ -59,14 +51,8 @@ element-copy-out-weight c = search needs
 weight-requires : tie.Need-weight-requires Inv-loop μ-loop
 weight-requires c κs = search needs
 
-mul-opened : tie.Need-mul-opened Inv-loop μ-loop
-mul-opened c = search needs
-
-index-1-opened : tie.Need-index-1-opened Inv-loop μ-loop
-index-1-opened c = search needs
-
-index-2-opened : tie.Need-index-2-opened Inv-loop μ-loop
-index-2-opened c = search needs
+figure-requires-3 : tie.Need-figure-requires-3 Inv-loop μ-loop
+figure-requires-3 c κs = search needs
 
 opened-requires : tie.Need-opened-requires Inv-loop μ-loop
 opened-requires c κs =
@@ -74,7 +60,7 @@ opened-requires c κs =
     let l = c .before .before .before .before .before .before .loop in
     let h = c .before .before .before .before .before .loop-test .taken in
     let small = blocked-small _ (s .args .target) (counts s) (s .args .first) (s .args .end) (l .inv) maxTime (counts-limit s) in
-    omega (arith, s .pre .1, l .inv .inside, small, counts-limit s (l .i) h, c .before .weight .ensures)
+    omega (arith, s .pre .1, l .inv .inside, small, counts-limit s (l .i) h, weighed (c .before))
 
 larger-requires : tie.Need-larger-requires Inv-loop μ-loop
 larger-requires c κs = search needs
@@ -91,7 +77,7 @@ loop-again c =
     let l = c .before .before .before .before .before .before .before .before .loop in
     let h = c .before .before .before .before .before .before .before .loop-test .taken in
     blocked-next _ (s .args .target) (counts s) (s .args .first) (s .args .end) (l .inv) h _ _
-    (c .before .opened .ensures ∙ ap (opened (l .block) (s .args .target) (table s .urgency (l .i))) (c .before .before .before .weight .ensures)) (c .larger .ensures)
+    (c .before .opened .ensures ∙ rw (c .before .before .figure3 .ensures, weighed (c .before .before .before))) (c .larger .ensures)
 
 returns : tie.Need-returns Inv-loop μ-loop
 returns c =
@@ -106,18 +92,12 @@ largest-block-spec =
     Inv-loop
     μ-loop
     loop-holds
+    figure-requires
+    figure-requires-2
     mul-weight
-    index-1-weight
-    index-2-weight
-    mul-weight-2
-    index-1-weight-2
-    index-2-weight-2
-    mul-weight-3
     element-copy-out-weight
     weight-requires
-    mul-opened
-    index-1-opened
-    index-2-opened
+    figure-requires-3
     opened-requires
     larger-requires
     add-i

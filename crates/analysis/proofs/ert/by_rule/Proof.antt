@@ -7,6 +7,7 @@ use Rattle.jobs.specs.Limits.{maxTime}
 use Rattle.theory.specs.Table.{Table}
 use Rattle.theory.specs.Bounds.{interference, boundLimit, ertRule, interferenceAt, ert}
 use Rattle.theory.proofs.Columns.{lent, column}
+use Rattle.theory.proofs.Predecessors.{notBefore}
 use Rattle.theory.proofs.Weights.{spanned}
 use Rattle.theory.proofs.Pairs.{delay-limit}
 use Rattle.theory.proofs.Late.{late, delay-late}
@@ -34,57 +35,41 @@ delay-is s i delay e = delay-late (s .args .count) (s .args .columns .now) (s .p
 delay-small : (s : tie.Start Inv-loop μ-loop) (i delay : ℕ) → Delay s i delay → delay ≤ s .args .count * maxTime
 delay-small s i delay e = delay-limit (s .args .count) (s .args .columns .now) late (s .pre .0 .mosts) _ _ _ _ delay e
 
+-- the interference on the job at hand, and the time from which its bound counts, by its place in the table
+delayed : (c : tie.After-interference Inv-loop μ-loop) → Delay (c .before .before .before .before .before .before) (c .before .before .before .before .before .loop .i) (c .interference .result)
+delayed c = c .interference .ensures ∙ rw (c .before .figure2 .ensures, c .before .before .before .figure .ensures)
+
+timed : (c : tie.After-not-before Inv-loop μ-loop)
+    → c .not-before .result ≡ notBefore (c .before .before .before .before .before .before .before .loop .last) (table (c .before .before .before .before .before .before .before .before) .chain (c .before .before .before .before .before .before .before .loop .i)) (table (c .before .before .before .before .before .before .before .before) .latest (c .before .before .before .before .before .before .before .loop .i)) (c .before .before .before .before .before .before .before .loop .bound)
+timed c = c .not-before .ensures ∙ rw (c .before .figure3 .ensures, c .before .before .before .before .before .figure .ensures)
+
 loop-holds : tie.Need-loop-holds Inv-loop μ-loop
 loop-holds c = ruled-none (table c) (interferenceAt (table c))
 
-mul-own : tie.Need-mul-own Inv-loop μ-loop
-mul-own c = search needs
+figure-requires : tie.Need-figure-requires Inv-loop μ-loop
+figure-requires c κs = search needs
 
-index-1-own : tie.Need-index-1-own Inv-loop μ-loop
-index-1-own c = search needs
-
-index-2-own : tie.Need-index-2-own Inv-loop μ-loop
-index-2-own c = search needs
-
-mul-interference : tie.Need-mul-interference Inv-loop μ-loop
-mul-interference c = search needs
-
-index-1-interference : tie.Need-index-1-interference Inv-loop μ-loop
-index-1-interference c = search needs
-
-index-2-interference : tie.Need-index-2-interference Inv-loop μ-loop
-index-2-interference c = search needs
+figure-requires-2 : tie.Need-figure-requires-2 Inv-loop μ-loop
+figure-requires-2 c κs = search needs
 
 interference-requires : tie.Need-interference-requires Inv-loop μ-loop
 interference-requires c κs = search needs
 
-mul-not-before : tie.Need-mul-not-before Inv-loop μ-loop
-mul-not-before c = search needs
-
-index-1-not-before : tie.Need-index-1-not-before Inv-loop μ-loop
-index-1-not-before c = search needs
-
-index-2-not-before : tie.Need-index-2-not-before Inv-loop μ-loop
-index-2-not-before c = search needs
+figure-requires-3 : tie.Need-figure-requires-3 Inv-loop μ-loop
+figure-requires-3 c κs = search needs
 
 not-before-requires : tie.Need-not-before-requires Inv-loop μ-loop
 not-before-requires c κs = search needs
 
-mul-bound : tie.Need-mul-bound Inv-loop μ-loop
-mul-bound c = search needs
-
-index-1-bound : tie.Need-index-1-bound Inv-loop μ-loop
-index-1-bound c = search needs
-
-index-2-bound : tie.Need-index-2-bound Inv-loop μ-loop
-index-2-bound c = search needs
+figure-requires-4 : tie.Need-figure-requires-4 Inv-loop μ-loop
+figure-requires-4 c κs = search needs
 
 add-bound : tie.Need-add-bound Inv-loop μ-loop
 add-bound c =
     let s = c .before .before .before .before .before .before .before .before .before in
     let l = c .before .before .before .before .before .before .before .before .loop in
     let h = c .before .before .before .before .before .before .before .loop-test .taken in
-    let time = ruled-time (table s) (interferenceAt (table s)) (s .pre .0) (l .inv) h (c .before .not-before .result) (c .before .not-before .ensures) in
+    let time = ruled-time (table s) (interferenceAt (table s)) (s .pre .0) (l .inv) h (c .before .not-before .result) (timed (c .before)) in
     search (needs, time, s .pre .0 .mosts (l .i) h, s .pre .0 .few, h)
 
 add-bound-2 : tie.Need-add-bound-2 Inv-loop μ-loop
@@ -92,8 +77,8 @@ add-bound-2 c =
     let s = c .before .before .before .before .before .before .before .before .before in
     let l = c .before .before .before .before .before .before .before .before .loop in
     let h = c .before .before .before .before .before .before .before .loop-test .taken in
-    let time = ruled-time (table s) (interferenceAt (table s)) (s .pre .0) (l .inv) h (c .before .not-before .result) (c .before .not-before .ensures) in
-    search (needs, time, s .pre .0 .mosts (l .i) h, s .pre .0 .few, h, delay-small s (l .i) (c .before .before .before .interference .result) (c .before .before .before .interference .ensures))
+    let time = ruled-time (table s) (interferenceAt (table s)) (s .pre .0) (l .inv) h (c .before .not-before .result) (timed (c .before)) in
+    search (needs, time, s .pre .0 .mosts (l .i) h, s .pre .0 .few, h, delay-small s (l .i) (c .before .before .before .interference .result) (delayed (c .before .before .before)))
 
 mul-bounds : tie.Need-mul-bounds Inv-loop μ-loop
 mul-bounds c = search needs
@@ -111,21 +96,12 @@ loop-again : tie.Need-loop-again Inv-loop μ-loop
 loop-again c =
     let s = c .before .before .before .before .before .before .before .before .before in
     let l = c .before .before .before .before .before .before .before .before .loop in
-    let h = c .before .before .before .before .before .before .before .loop-test .taken in
     let delay = c .before .before .before .interference .result in
-    let is = delay-is s (l .i) delay (c .before .before .before .interference .ensures) in
-    let next =
-    ruled-next (table s) (interferenceAt (table s)) (s .pre .0) (l .inv) h (c .before .not-before .result) _ (c .before .not-before .ensures)
-    (omega (arith, is, delay-small s (l .i) delay (c .before .before .before .interference .ensures)))
-    (ap (λ (d : ℕ). c .before .not-before .result + table s .most (l .i) + d) is)
-    in
-    record {
-      inside = next .inside;
-      last-is = next .last-is;
-      bound-is = next .bound-is;
-      bounds-are = next .bounds-are;
-      small = next .small;
-    }
+    let is = delay-is s (l .i) delay (delayed (c .before .before .before)) in
+    rw (c .figure4 .ensures, c .before .before .before .before .before .before .figure .ensures)
+    (ruled-next (table s) (interferenceAt (table s)) (s .pre .0) (l .inv) (c .before .before .before .before .before .before .before .loop-test .taken) (c .before .not-before .result) _ (timed (c .before))
+    (omega (arith, is, delay-small s (l .i) delay (delayed (c .before .before .before))))
+    (ap (λ (d : ℕ). c .before .not-before .result + table s .most (l .i) + d) is))
 
 returns : tie.Need-returns Inv-loop μ-loop
 unfolding ert
@@ -142,20 +118,12 @@ by-rule-spec =
     Inv-loop
     μ-loop
     loop-holds
-    mul-own
-    index-1-own
-    index-2-own
-    mul-interference
-    index-1-interference
-    index-2-interference
+    figure-requires
+    figure-requires-2
     interference-requires
-    mul-not-before
-    index-1-not-before
-    index-2-not-before
+    figure-requires-3
     not-before-requires
-    mul-bound
-    index-1-bound
-    index-2-bound
+    figure-requires-4
     add-bound
     add-bound-2
     mul-bounds

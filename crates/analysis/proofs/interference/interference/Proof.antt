@@ -1,6 +1,6 @@
 -- `interference` answers the theory's. The loop's invariant: the shares of the chains before place i are added up. Assumes nothing.
 use Prim.Native.Nat.{ℕ, _+_, _-_, _≤_, _<_}
-use mathlib.Core.Path.{_≡_}
+use mathlib.Core.Path.{_≡_, _∙_}
 use mathlib.Core.Bool.{cond}
 use native.Mathlib.Omega.{arith}
 use lib.Dec.{eqb}
@@ -51,44 +51,38 @@ module _ (l : tie.At-loop Inv-loop μ-loop) (h : l .loop .i < l .before .args .c
 loop-holds : tie.Need-loop-holds Inv-loop μ-loop
 loop-holds c = shared-none (table c) (c .args .own) (c .args .target) (counts c) maxTime
 
-mul-end : tie.Need-mul-end Inv-loop μ-loop
-mul-end c = search needs
+figure-requires : tie.Need-figure-requires Inv-loop μ-loop
+figure-requires c κs = search needs
 
-index-1-end : tie.Need-index-1-end Inv-loop μ-loop
-index-1-end c = search needs
-
-index-2-end : tie.Need-index-2-end Inv-loop μ-loop
-index-2-end c = search needs
-
-mul-share : tie.Need-mul-share Inv-loop μ-loop
-mul-share c = search needs
-
-index-1-share : tie.Need-index-1-share Inv-loop μ-loop
-index-1-share c = search needs
-
-index-2-share : tie.Need-index-2-share Inv-loop μ-loop
-index-2-share c = search needs
+figure-requires-2 : tie.Need-figure-requires-2 Inv-loop μ-loop
+figure-requires-2 c κs = search needs
 
 share-requires : tie.Need-share-requires Inv-loop μ-loop
 share-requires c κs =
     let l = c .before .before .before in
     let s = l .before in
     let ends = chain-ends l (c .before .before .loop-test .taken) in
-    (omega (arith, ends .later), omega (arith, ends .within, s .pre .0 .few), λ i il. s .pre .0 .mosts i (omega (arith, ends .within)))
+    let e = c .before .figure .ensures in
+    (omega (arith, e, ends .later), omega (arith, e, ends .within, s .pre .0 .few), λ i il. s .pre .0 .mosts i (omega (arith, e, ends .within)))
+
+-- the shares with that of the chain at hand
+shared : (c : tie.After-share Inv-loop μ-loop)
+    → Shared (table (c .before .before .before .before .before)) (c .before .before .before .before .before .args .own) (c .before .before .before .before .before .args .target) (counts (c .before .before .before .before .before)) maxTime (end-at (c .before .before .before .before)) (c .before .before .before .before .loop .total + c .share .result)
+shared c =
+    shared-at (c .before .before .before .before) (c .before .before .before .loop-test .taken) (c .share .result)
+    (c .share .ensures ∙ rw (c .before .figure2 .ensures, c .before .before .figure .ensures))
 
 add-total : tie.Need-add-total Inv-loop μ-loop
-add-total c =
-    let l = c .before .before .before .before in
-    let h = c .before .before .before .loop-test .taken in
-    search (needs, shared-at l h (c .share .result) (c .share .ensures) .small, shared-at l h (c .share .result) (c .share .ensures) .inside, l .before .pre .0 .few)
+add-total c = search (needs, shared c .small, shared c .inside, c .before .before .before .before .before .pre .0 .few)
 
 loop-less : tie.Need-loop-less Inv-loop μ-loop
 loop-less c =
     let l = c .before .before .before .before in
-    omega (arith, chain-ends l (c .before .before .before .loop-test .taken) .later, c .before .before .before .loop-test .taken)
+    let h = c .before .before .before .loop-test .taken in
+    omega (arith, chain-ends l h .later, h, c .before .before .figure .ensures)
 
 loop-again : tie.Need-loop-again Inv-loop μ-loop
-loop-again c = shared-at (c .before .before .before .before) (c .before .before .before .loop-test .taken) (c .share .result) (c .share .ensures)
+loop-again c = rw (c .before .before .figure .ensures) (shared c)
 
 returns : tie.Need-returns Inv-loop μ-loop
 returns c =
@@ -103,12 +97,8 @@ interference-spec =
     Inv-loop
     μ-loop
     loop-holds
-    mul-end
-    index-1-end
-    index-2-end
-    mul-share
-    index-1-share
-    index-2-share
+    figure-requires
+    figure-requires-2
     share-requires
     add-total
     loop-less

@@ -6,6 +6,7 @@ use borrow.Author.Needs.{needs}
 use Rattle.theory.specs.Table.{Table}
 use Rattle.theory.specs.Bounds.{ertRule, itrStart}
 use Rattle.theory.proofs.Columns.{lent, column}
+use Rattle.theory.proofs.Predecessors.{notBefore}
 use Rattle.theory.proofs.Ruled.{Ruled, ruled-none, ruled-time, ruled-next}
 use Rattle.analysis.proofs.itr.start.Statement.{statement}
 use Rattle.analysis.proofs.itr.start.Tie as tie
@@ -23,45 +24,32 @@ table s = lent (s .args .count) (s .args .columns .now)
 abbrev none : ℕ → ℕ
 none i = 0
 
+-- the time from which the bound of the job at hand counts, by its place in the table
+timed : (c : tie.After-not-before Inv-loop μ-loop)
+    → c .not-before .result ≡ notBefore (c .before .before .before .before .loop .last) (table (c .before .before .before .before .before) .chain (c .before .before .before .before .loop .i)) (table (c .before .before .before .before .before) .latest (c .before .before .before .before .loop .i)) (c .before .before .before .before .loop .bound)
+timed c = c .not-before .ensures ∙ rw (c .before .figure2 .ensures, c .before .before .figure .ensures)
+
 loop-holds : tie.Need-loop-holds Inv-loop μ-loop
 loop-holds c = ruled-none (table c) none
 
-mul-own : tie.Need-mul-own Inv-loop μ-loop
-mul-own c = search needs
+figure-requires : tie.Need-figure-requires Inv-loop μ-loop
+figure-requires c κs = search needs
 
-index-1-own : tie.Need-index-1-own Inv-loop μ-loop
-index-1-own c = search needs
-
-index-2-own : tie.Need-index-2-own Inv-loop μ-loop
-index-2-own c = search needs
-
-mul-not-before : tie.Need-mul-not-before Inv-loop μ-loop
-mul-not-before c = search needs
-
-index-1-not-before : tie.Need-index-1-not-before Inv-loop μ-loop
-index-1-not-before c = search needs
-
-index-2-not-before : tie.Need-index-2-not-before Inv-loop μ-loop
-index-2-not-before c = search needs
+figure-requires-2 : tie.Need-figure-requires-2 Inv-loop μ-loop
+figure-requires-2 c κs = search needs
 
 not-before-requires : tie.Need-not-before-requires Inv-loop μ-loop
 not-before-requires c κs = search needs
 
-mul-bound : tie.Need-mul-bound Inv-loop μ-loop
-mul-bound c = search needs
-
-index-1-bound : tie.Need-index-1-bound Inv-loop μ-loop
-index-1-bound c = search needs
-
-index-2-bound : tie.Need-index-2-bound Inv-loop μ-loop
-index-2-bound c = search needs
+figure-requires-3 : tie.Need-figure-requires-3 Inv-loop μ-loop
+figure-requires-3 c κs = search needs
 
 add-bound : tie.Need-add-bound Inv-loop μ-loop
 add-bound c =
     let s = c .before .before .before .before .before .before in
     let l = c .before .before .before .before .before .loop in
     let h = c .before .before .before .before .loop-test .taken in
-    search (needs, ruled-time (table s) none (s .pre) (l .inv) h (c .before .not-before .result) (c .before .not-before .ensures), s .pre .mosts (l .i) h, s .pre .few, h)
+    search (needs, ruled-time (table s) none (s .pre) (l .inv) h (c .before .not-before .result) (timed (c .before)), s .pre .mosts (l .i) h, s .pre .few, h)
 
 mul-bounds : tie.Need-mul-bounds Inv-loop μ-loop
 mul-bounds c = search needs
@@ -79,7 +67,8 @@ loop-again : tie.Need-loop-again Inv-loop μ-loop
 loop-again c =
     let s = c .before .before .before .before .before .before in
     let l = c .before .before .before .before .before .loop in
-    ruled-next (table s) none (s .pre) (l .inv) (c .before .before .before .before .loop-test .taken) (c .before .not-before .result) _ (c .before .not-before .ensures) (omega arith) (omega arith)
+    rw (c .figure3 .ensures, c .before .before .before .figure .ensures)
+    (ruled-next (table s) none (s .pre) (l .inv) (c .before .before .before .before .loop-test .taken) (c .before .not-before .result) _ (timed (c .before)) (omega arith) (omega arith))
 
 returns : tie.Need-returns Inv-loop μ-loop
 unfolding itrStart
@@ -96,16 +85,10 @@ start-spec =
     Inv-loop
     μ-loop
     loop-holds
-    mul-own
-    index-1-own
-    index-2-own
-    mul-not-before
-    index-1-not-before
-    index-2-not-before
+    figure-requires
+    figure-requires-2
     not-before-requires
-    mul-bound
-    index-1-bound
-    index-2-bound
+    figure-requires-3
     add-bound
     mul-bounds
     array-write-bounds

@@ -1,10 +1,11 @@
 -- `largest_pair` answers `largestPair`. The loop's invariant: the pairs from k on are behind it. Assumes nothing.
-use Prim.Native.Nat.{ℕ, suc, _*_, _-_, _≤_, _<_}
-use mathlib.Core.Path.{_≡_}
+use Prim.Native.Nat.{ℕ, suc, _*_, _-_, _≤_, _<_, min}
+use mathlib.Core.Path.{_≡_, _∙_}
 use mathlib.Core.Bool.{Bool}
 use native.Mathlib.Numerals.{add-one}
 use native.Mathlib.Omega.{arith}
 use borrow.Author.Needs.{needs}
+use Rattle.laws.specs.Words.{numberAt}
 use Rattle.jobs.specs.Limits.{maxTime}
 use Rattle.theory.specs.Bounds.{interference, overlap}
 use Rattle.theory.specs.Table.{Table}
@@ -34,14 +35,8 @@ previous l h = omega arith
 abbrev delay-small : (s : tie.Start Inv-loop μ-loop) (low from to delay : ℕ) → delay ≡ interference (table s) (table s .chain (s .args .j)) low (spanned (s .args .columns .now) (s .args .bound .now) from to) → delay ≤ s .args .count * maxTime
 delay-small s low from to delay e = delay-limit (s .args .count) (s .args .columns .now) (s .args .bound .now) (s .pre .0 .mosts) _ low from to delay e
 
-mul-own : tie.Need-mul-own Inv-loop μ-loop
-mul-own c = search needs
-
-index-1-own : tie.Need-index-1-own Inv-loop μ-loop
-index-1-own c = search needs
-
-index-2-own : tie.Need-index-2-own Inv-loop μ-loop
-index-2-own c = search needs
+figure-requires : tie.Need-figure-requires Inv-loop μ-loop
+figure-requires c κs = search needs
 
 mul-to : tie.Need-mul-to Inv-loop μ-loop
 mul-to c = search needs
@@ -49,48 +44,38 @@ mul-to c = search needs
 element-copy-out-to : tie.Need-element-copy-out-to Inv-loop μ-loop
 element-copy-out-to c = search needs
 
-mul-low : tie.Need-mul-low Inv-loop μ-loop
-mul-low c = search needs
-
-index-1-low : tie.Need-index-1-low Inv-loop μ-loop
-index-1-low c = search needs
-
-index-2-low : tie.Need-index-2-low Inv-loop μ-loop
-index-2-low c = search needs
+figure-requires-2 : tie.Need-figure-requires-2 Inv-loop μ-loop
+figure-requires-2 c κs = search needs
 
 add-k : tie.Need-add-k Inv-loop μ-loop
 add-k c = search needs
 
 loop-holds : tie.Need-loop-holds Inv-loop μ-loop
-loop-holds c = let s = c .before .before .before in rw add-one (walked-none (table s) (s .args .j) (keep s) maxTime)
+loop-holds c = let s = c .before .before .before in rw (add-one, c .figure2 .ensures) (walked-none (table s) (s .args .j) (keep s) maxTime)
 
 sub-k : tie.Need-sub-k Inv-loop μ-loop
 sub-k c = search needs
 
-mul-if1 : tie.Need-mul-if1 Inv-loop μ-loop
-mul-if1 c = search needs
-
-index-1-if1 : tie.Need-index-1-if1 Inv-loop μ-loop
-index-1-if1 c = search needs
-
-index-2-if1 : tie.Need-index-2-if1 Inv-loop μ-loop
-index-2-if1 c = search needs
+figure-requires-3 : tie.Need-figure-requires-3 Inv-loop μ-loop
+figure-requires-3 c κs = search needs
 
 returns : tie.Need-returns Inv-loop μ-loop
 returns c =
     let s = c .before .before .before .before .before .before .before in
     let l = c .before .before .before .loop in
     let e = previous (c .before .before .before) (c .before .before .loop-test .taken) in
-    walked-stop (table s) (s .args .j) (keep s) maxTime (l .inv) e (s .pre .0 .ordered) (s .pre .2) (c .if1 .taken)
+    walked-stop (table s) (s .args .j) (keep s) maxTime (l .inv) e (s .pre .0 .ordered) (s .pre .2) (rw (c .before .figure3 .ensures, c .before .before .before .before .before .before .figure .ensures) at (c .if1 .taken))
 
-mul-sum : tie.Need-mul-sum Inv-loop μ-loop
-mul-sum c = search needs
+figure-requires-4 : tie.Need-figure-requires-4 Inv-loop μ-loop
+figure-requires-4 c κs = search needs
 
-index-1-sum : tie.Need-index-1-sum Inv-loop μ-loop
-index-1-sum c = search needs
+-- the lowest urgency with that of the job at hand, and the interference on the pair, by their places in the table
+lowered : (c : tie.After-lower Inv-loop μ-loop) → c .lower .result ≡ min (c .before .before .before .before .before .before .loop .low) (table (c .before .before .before .before .before .before .before .before .before .before) .urgency (c .before .before .before .before .before .before .loop .k - 1))
+lowered c = c .lower .ensures ∙ rw (c .before .figure5 .ensures)
 
-index-2-sum : tie.Need-index-2-sum Inv-loop μ-loop
-index-2-sum c = search needs
+delayed : (c : tie.After-interference Inv-loop μ-loop)
+    → c .interference .result ≡ interference (table (c .before .before .before .before .before .before .before .before .before .before .before .before)) (table (c .before .before .before .before .before .before .before .before .before .before .before .before) .chain (c .before .before .before .before .before .before .before .before .before .before .before .before .args .j)) (c .before .before .lower .result) (spanned (c .before .before .before .before .before .before .before .before .before .before .before .before .args .columns .now) (c .before .before .before .before .before .before .before .before .before .before .before .before .args .bound .now) (table (c .before .before .before .before .before .before .before .before .before .before .before .before) .earliest (c .before .before .before .before .before .before .before .before .loop .k - 1)) (numberAt (c .before .before .before .before .before .before .before .before .before .before .before .before .args .bound .now) (c .before .before .before .before .before .before .before .before .before .before .before .before .args .j)))
+delayed c = c .interference .ensures ∙ rw (c .before .figure6 .ensures, c .before .before .before .before .before .before .before .before .before .before .before .figure .ensures)
 
 add-sum : tie.Need-add-sum Inv-loop μ-loop
 add-sum c =
@@ -98,38 +83,20 @@ add-sum c =
     let l = c .before .before .before .before .loop in
     search (needs, s .pre .0 .mosts (l .k - 1) (omega (arith, l .inv .inside, s .pre .2, c .before .before .before .loop-test .taken)), l .inv .small, s .pre .0 .few)
 
-mul-lower : tie.Need-mul-lower Inv-loop μ-loop
-mul-lower c = search needs
-
-index-1-lower : tie.Need-index-1-lower Inv-loop μ-loop
-index-1-lower c = search needs
-
-index-2-lower : tie.Need-index-2-lower Inv-loop μ-loop
-index-2-lower c = search needs
+figure-requires-5 : tie.Need-figure-requires-5 Inv-loop μ-loop
+figure-requires-5 c κs = search needs
 
 lower-requires : tie.Need-lower-requires Inv-loop μ-loop
 lower-requires c κs = search needs
 
-mul-interference : tie.Need-mul-interference Inv-loop μ-loop
-mul-interference c = search needs
-
-index-1-interference : tie.Need-index-1-interference Inv-loop μ-loop
-index-1-interference c = search needs
-
-index-2-interference : tie.Need-index-2-interference Inv-loop μ-loop
-index-2-interference c = search needs
+figure-requires-6 : tie.Need-figure-requires-6 Inv-loop μ-loop
+figure-requires-6 c κs = search needs
 
 interference-requires : tie.Need-interference-requires Inv-loop μ-loop
 interference-requires c κs = search needs
 
-mul-larger : tie.Need-mul-larger Inv-loop μ-loop
-mul-larger c = search needs
-
-index-1-larger : tie.Need-index-1-larger Inv-loop μ-loop
-index-1-larger c = search needs
-
-index-2-larger : tie.Need-index-2-larger Inv-loop μ-loop
-index-2-larger c = search needs
+figure-requires-7 : tie.Need-figure-requires-7 Inv-loop μ-loop
+figure-requires-7 c κs = search needs
 
 add-larger : tie.Need-add-larger Inv-loop μ-loop
 add-larger c =
@@ -143,7 +110,7 @@ add-larger-2 c =
     let s = c .before .before .before .before .before .before .before .before .before .before .before .before .before in
     let l = c .before .before .before .before .before .before .before .before .before .loop in
     let i : l .k - 1 < s .args .count = omega (arith, l .inv .inside, s .pre .2, c .before .before .before .before .before .before .before .before .loop-test .taken) in
-    let d = delay-small s _ _ _ (c .before .interference .result) (c .before .interference .ensures) in
+    let d = delay-small s _ _ _ (c .before .interference .result) (delayed (c .before)) in
     search (needs, s .pre .0 .mosts (l .k - 1) i, s .pre .0 .late (l .k - 1) i, l .inv .small, s .pre .0 .few, d)
 
 larger-requires : tie.Need-larger-requires Inv-loop μ-loop
@@ -158,10 +125,11 @@ loop-again c =
     let l = c .before .before .before .before .before .before .before .before .before .before .loop in
     let e = previous (c .before .before .before .before .before .before .before .before .before .before) (c .before .before .before .before .before .before .before .before .before .loop-test .taken) in
     let i : l .k - 1 < s .args .count = omega (arith, l .inv .inside, s .pre .2, c .before .before .before .before .before .before .before .before .before .loop-test .taken) in
-    let low = walked-low (table s) (s .args .j) (keep s) maxTime (l .inv) e (c .before .before .before .before .lower .result) (c .before .before .before .before .lower .ensures) in
-    walked-next (table s) (s .args .j) (keep s) maxTime (l .inv) e (c .before .before .before .before .lower .result) _ (c .larger .result) (c .before .before .before .before .before .before .before .if1 .left) (s .pre .0 .mosts (l .k - 1) i) (c .before .before .before .before .lower .ensures)
-    (pair-is (s .args .count) (s .args .columns .now) (s .args .bound .now) (l .k - 1) (s .args .j) _ _ _ (omega (arith, l .inv .inside)) (walked-sum (table s) (s .args .j) (keep s) maxTime (l .inv) e) low (c .before .before .interference .ensures))
-    (c .larger .ensures)
+    let low = walked-low (table s) (s .args .j) (keep s) maxTime (l .inv) e (c .before .before .before .before .lower .result) (lowered (c .before .before .before .before)) in
+    rw (c .before .before .before .before .before .before .figure4 .ensures)
+    (walked-next (table s) (s .args .j) (keep s) maxTime (l .inv) e (c .before .before .before .before .lower .result) _ (c .larger .result) (rw (c .before .before .before .before .before .before .before .before .figure3 .ensures, c .before .before .before .before .before .before .before .before .before .before .before .before .before .figure .ensures) at (c .before .before .before .before .before .before .before .if1 .left)) (s .pre .0 .mosts (l .k - 1) i) (lowered (c .before .before .before .before))
+    (pair-is (s .args .count) (s .args .columns .now) (s .args .bound .now) (l .k - 1) (s .args .j) _ _ _ (omega (arith, l .inv .inside)) (walked-sum (table s) (s .args .j) (keep s) maxTime (l .inv) e) low (delayed (c .before .before)))
+    (c .larger .ensures ∙ rw (c .before .figure7 .ensures, c .before .before .before .before .before .before .figure4 .ensures)))
 
 returns-2 : tie.Need-returns-2 Inv-loop μ-loop
 returns-2 c = let s = c .before .before .before .before .before in walked-all (table s) (s .args .j) (keep s) maxTime (c .before .loop .k) (omega (arith, c .loop-test .left)) (c .before .loop .inv)
@@ -172,36 +140,22 @@ largest-pair-spec =
     (tie.spec
     Inv-loop
     μ-loop
-    mul-own
-    index-1-own
-    index-2-own
+    figure-requires
     mul-to
     element-copy-out-to
-    mul-low
-    index-1-low
-    index-2-low
+    figure-requires-2
     add-k
     loop-holds
     sub-k
-    mul-if1
-    index-1-if1
-    index-2-if1
+    figure-requires-3
     returns
-    mul-sum
-    index-1-sum
-    index-2-sum
+    figure-requires-4
     add-sum
-    mul-lower
-    index-1-lower
-    index-2-lower
+    figure-requires-5
     lower-requires
-    mul-interference
-    index-1-interference
-    index-2-interference
+    figure-requires-6
     interference-requires
-    mul-larger
-    index-1-larger
-    index-2-larger
+    figure-requires-7
     add-larger
     add-larger-2
     larger-requires
