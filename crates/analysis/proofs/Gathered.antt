@@ -17,7 +17,7 @@ use Rattle.theory.proofs.Given.{effectiveEarliest, given}
 use Rattle.theory.proofs.WellFormed.{Ordered, chain-le}
 use Rattle.theory.proofs.Agreement.{Agree}
 use Rattle.theory.proofs.Predecessors.{notBefore, release-by}
-use Rattle.theory.proofs.Columns.{figure, lent, column}
+use Rattle.theory.proofs.Columns.{columnCount, figure, lent, column}
 use Rattle.theory.proofs.Endings.{Ended, Heads, heads-none, heads-next, ends-same}
 use Rattle.theory.proofs.Prior.{prior, prior-none, prior-next}
 use Rattle.theory.proofs.Unread.{bare}
@@ -40,7 +40,7 @@ pub record Gathered (js : List Job) (i last ready first : ℕ) (columns : List (
 
 -- columns of nothing, and with a figure stored at a place of one
 abbrev pub noColumns : List (List ℕ)
-noColumns = replicate 6 (replicate maxJobs 0)
+noColumns = replicate columnCount (replicate maxJobs 0)
 
 abbrev put : ℕ → ℕ → ℕ → List (List ℕ) → List (List ℕ)
 put k i x columns = set columns k (set (getD columns k []) i x)

@@ -8,7 +8,7 @@ use lib.ListN.{length, drop, length-append}
 use mir.Syntax.{w64}
 use mir.Val.{SFits}
 use Rattle.decimal.specs.Digits.{signed}
-use Rattle.jobs.specs.declared.job.Job.{Job}
+use Rattle.report.specs.declared.row.Row.{Row}
 use Rattle.report.specs.Texts.{afterCommas}
 use Rattle.report.proofs.Lines.{lineEnd, lineText, commas-append, line-is}
 use Rattle.report.proofs.ColumnTexts.{columnsText, word-digits}
@@ -31,21 +31,19 @@ pub slack-length : (z : ℤ) → length (slackText z) ≡ length (signed z) + 1
 slack-length z = omega (arith, ap length (slack-is z))
 
 -- the columns of a row
-abbrev pub rowValues : Job → ℕ → ℕ → ℕ → List ℕ
-rowValues j ert cja itr = j .chain ∷ j .job ∷ ert ∷ cja ∷ itr ∷ []
+abbrev pub rowValues : Row → List ℕ
+rowValues r = r .chain ∷ r .job ∷ r .ert ∷ r .cja ∷ r .itr ∷ []
 
 -- the integers of a row
-abbrev pub rowOf : Job → ℕ → ℕ → ℕ → ℤ → List ℤ
-rowOf j ert cja itr slack = pos (j .chain) ∷ pos (j .job) ∷ pos ert ∷ pos cja ∷ pos itr ∷ slack ∷ []
+abbrev pub integers : Row → List ℤ
+integers r = pos (r .chain) ∷ pos (r .job) ∷ pos (r .ert) ∷ pos (r .cja) ∷ pos (r .itr) ∷ r .slack ∷ []
 
-pub row-pieces : (j : Job) (ert cja itr : ℕ) (slack : ℤ) → (columnsText (rowValues j ert cja itr) ++ slackText slack) ++ lineEnd ≡ lineText (rowOf j ert cja itr slack)
+pub row-pieces : (r : Row) → (columnsText (rowValues r) ++ slackText (r .slack)) ++ lineEnd ≡ lineText (integers r)
 unfolding afterCommas
-row-pieces j ert cja itr slack =
-    let row = rowOf j ert cja itr slack in
-    sym (line-is row ∙ ap (λ (l : List ℕ). drop 1 l ++ lineEnd) (commas-append (map pos (rowValues j ert cja itr)) (slack ∷ [])))
+row-pieces r = sym (line-is (integers r) ∙ ap (λ (l : List ℕ). drop 1 l ++ lineEnd) (commas-append (map pos (rowValues r)) (r .slack ∷ [])))
 
-pub row-length : (j : Job) (ert cja itr : ℕ) (slack : ℤ) → length (lineText (rowOf j ert cja itr slack)) ≡ length (columnsText (rowValues j ert cja itr)) + length (signed slack) + 3
-row-length j ert cja itr slack =
-    let columns = columnsText (rowValues j ert cja itr) in
-    ap length (sym (row-pieces j ert cja itr slack))
-    ∙ omega (arith, length-append (columns ++ slackText slack) lineEnd, length-append columns (slackText slack), slack-length slack)
+pub row-length : (r : Row) → length (lineText (integers r)) ≡ length (columnsText (rowValues r)) + length (signed (r .slack)) + 3
+row-length r =
+    let columns = columnsText (rowValues r) in
+    ap length (sym (row-pieces r))
+    ∙ omega (arith, length-append (columns ++ slackText (r .slack)) lineEnd, length-append columns (slackText (r .slack)), slack-length (r .slack))

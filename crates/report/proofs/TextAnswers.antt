@@ -23,7 +23,7 @@ use Rattle.theory.specs.Bounds.{ert, cja, itr, slacks}
 use Rattle.report.specs.declared.written.Written.the-variants.{Bytes, Refused}
 use Rattle.report.specs.Texts.{linesText, boundsHeader, boundsRow, boundsText}
 use Rattle.report.specs.Answers.{answerTo}
-use Rattle.report.proofs.RowsTexts.{boundsRows}
+use Rattle.report.proofs.RowsTexts.{boundsRows, firstRows}
 
 pub answer-short : (text buffer : List ℕ) → length buffer < length text → Refused ShortBuffer ≡ answerTo text buffer
 unfolding answerTo
@@ -43,7 +43,7 @@ rows-padded s byErt byCja byItr each n h =
 
 -- the rows of a set's figures
 abbrev pub figureRows : JobSet → Figures → List ℕ
-figureRows s figures = boundsRows (s .jobs) (figures .ert) (figures .cja) (figures .itr) (figures .slacks) (s .count)
+figureRows s figures = firstRows s figures (s .count)
 
 pub figures-text : (s : JobSet) (figures : Figures) → figures ≡ figuresOf s → checkOf (jobsOf s) ≡ Passed → boundsHeader ++ figureRows s figures ≡ boundsText (jobsOf s)
 unfolding boundsText ertOf cjaOf itrOf slacksOf figuresOf

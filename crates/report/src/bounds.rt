@@ -20,27 +20,12 @@ fn write_bounds(set: JobSet, figures: Figures, out: &mut [u8]) -> Written
     ensures { λ r. let text = boundsHeader ++ linesText (tabulate 0 (set .count) (boundsRow (set .jobs) (figures .ert) (figures .cja) (figures .itr) (figures .slacks))) in ⌜ (r ≡ answerTo text (now (out .entry))) × (now (out .exit) ≡ Laws·written text (now (out .entry))) ⌝ }
 {
     let header = HEADER;
-    let length = header.len()
-        + rows_length(
-            set,
-            &figures.ert,
-            &figures.cja,
-            &figures.itr,
-            &figures.slacks,
-        );
+    let length = header.len() + rows_length(set, figures);
     if out.len() < length {
         return Written::Refused(Refusal::ShortBuffer);
     }
     let at = write_bytes(&header, out, 0);
-    write_rows(
-        set,
-        &figures.ert,
-        &figures.cja,
-        &figures.itr,
-        &figures.slacks,
-        out,
-        at,
-    );
+    write_rows(set, figures, out, at);
     Written::Bytes(length as u32)
 }
 

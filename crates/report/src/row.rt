@@ -1,19 +1,47 @@
 // A row of the bounds text.
-ghost use Rattle.laws.specs.Words.{_≡_, _+_, _≤_, [], _∷_, pos, length, patched};
+ghost use Rattle.laws.specs.Words.{_≡_, _+_, _≤_, _<_, [], _∷_, pos, length, getD, patched};
+ghost use Rattle.jobs.specs.{Limits.maxJobs, Jobs.jobAt};
 ghost use Rattle.report.specs.Texts.{afterCommas, linesText};
 use crate::columns::columns_length;
 use crate::columns::write_bytes;
 use crate::columns::write_columns;
+use analysis::answer::Figures;
 use decimal::signed::signed_length;
 use decimal::signed::write_signed;
-use jobs::job::Job;
+use jobs::set::JobSet;
+
+// The columns of a row.
+pub struct Row {
+    pub chain: u64,
+    pub job: u64,
+    pub ert: u64,
+    pub cja: u64,
+    pub itr: u64,
+    pub slack: i64,
+}
+
+// The row of the job at place n.
+pub(crate) fn row_of(set: JobSet, figures: Figures, n: usize) -> Row
+    requires { ⌜ n < maxJobs ⌝ }
+    ensures { λ r. let j = jobAt (set .jobs) n in ⌜ r ≡ record { chain = j .chain; job = j .job; ert = getD (figures .ert) n 0; cja = getD (figures .cja) n 0; itr = getD (figures .itr) n 0; slack = getD (figures .slacks) n (pos 0) } ⌝ }
+{
+    let job = set.jobs[n];
+    Row {
+        chain: job.chain,
+        job: job.job,
+        ert: figures.ert[n],
+        cja: figures.cja[n],
+        itr: figures.itr[n],
+        slack: figures.slacks[n],
+    }
+}
 
 // How many bytes the row takes: five columns of at most 21, at most 21 for the slack, and 3.
-pub(crate) fn row_length(job: Job, ert: u64, cja: u64, itr: u64, slack: i64) -> usize
-    ensures { λ r. let row = pos (job .chain) ∷ pos (job .job) ∷ pos ert ∷ pos cja ∷ pos itr ∷ slack ∷ [] in ⌜ (r ≡ length (linesText (row ∷ []))) × (r ≤ 129) ⌝ }
+pub(crate) fn row_length(row: Row) -> usize
+    ensures { λ r. let line = linesText ((pos (row .chain) ∷ pos (row .job) ∷ pos (row .ert) ∷ pos (row .cja) ∷ pos (row .itr) ∷ row .slack ∷ []) ∷ []) in ⌜ (r ≡ length line) × (r ≤ 129) ⌝ }
 {
-    let values = [job.chain, job.job, ert, cja, itr];
-    columns_length(&values) + signed_length(slack) + 3
+    let values = [row.chain, row.job, row.ert, row.cja, row.itr];
+    columns_length(&values) + signed_length(row.slack) + 3
 }
 
 // Writes a comma and the slack, and answers the place after them.
@@ -27,20 +55,12 @@ fn write_slack(slack: i64, out: &mut [u8], at: usize) -> usize
 }
 
 // Writes the row, and answers the place after it.
-pub(crate) fn write_row(
-    job: Job,
-    ert: u64,
-    cja: u64,
-    itr: u64,
-    slack: i64,
-    out: &mut [u8],
-    at: usize,
-) -> usize
-    requires { let row = pos (job .chain) ∷ pos (job .job) ∷ pos ert ∷ pos cja ∷ pos itr ∷ slack ∷ [] in ⌜ at + length (linesText (row ∷ [])) ≤ length (now out) ⌝ }
-    ensures { λ r. let row = pos (job .chain) ∷ pos (job .job) ∷ pos ert ∷ pos cja ∷ pos itr ∷ slack ∷ [] in ⌜ (r ≡ at + length (linesText (row ∷ []))) × (now (out .exit) ≡ patched (now (out .entry)) at (linesText (row ∷ []))) ⌝ }
+pub(crate) fn write_row(row: Row, out: &mut [u8], at: usize) -> usize
+    requires { let line = linesText ((pos (row .chain) ∷ pos (row .job) ∷ pos (row .ert) ∷ pos (row .cja) ∷ pos (row .itr) ∷ row .slack ∷ []) ∷ []) in ⌜ at + length line ≤ length (now out) ⌝ }
+    ensures { λ r. let line = linesText ((pos (row .chain) ∷ pos (row .job) ∷ pos (row .ert) ∷ pos (row .cja) ∷ pos (row .itr) ∷ row .slack ∷ []) ∷ []) in ⌜ (r ≡ at + length line) × (now (out .exit) ≡ patched (now (out .entry)) at line) ⌝ }
 {
-    let values = [job.chain, job.job, ert, cja, itr];
+    let values = [row.chain, row.job, row.ert, row.cja, row.itr];
     let after_columns = write_columns(&values, out, at);
-    let after_slack = write_slack(slack, out, after_columns);
+    let after_slack = write_slack(row.slack, out, after_columns);
     write_bytes(b"\r\n", out, after_slack)
 }

@@ -1,6 +1,6 @@
 -- `write_bounds` leaves the header and the rows at the start of the buffer. Assumes nothing.
-use Prim.Native.Nat.{_+_, _≤_}
-use mathlib.Core.List.{[], _++_}
+use Prim.Native.Nat.{ℕ, _+_, _≤_, _<_}
+use mathlib.Core.List.{List, [], _++_}
 use mathlib.Core.Path.{_≡_, sym}
 use native.Mathlib.Omega.{arith}
 use lib.ListN.{length, length-append}
@@ -13,31 +13,37 @@ use Rattle.report.proofs.TextAnswers.{answer-short, answer-fits, figure
 use Rattle.report.proofs.bounds.write_bounds.Statement.{statement}
 use Rattle.report.proofs.bounds.write_bounds.Tie as tie
 
--- the length that the test compares
-length-is : (c : tie.After-rows-length) → length (boundsHeader ++ (figureRows (c .before .before .before .before .before .before .before .args .set) (c .before .before .before .before .before .before .before .args .t2))) ≡ 29 + c .rows-length .result
-length-is c = omega (arith, length-append boundsHeader (figureRows (c .before .before .before .before .before .before .before .args .set) (c .before .before .before .before .before .before .before .args .t2)), c .rows-length .ensures .0)
+-- the rows, and the whole text
+abbrev rowsText : tie.Start → List ℕ
+rowsText s = figureRows (s .args .set) (s .args .figures)
 
-fits : (c : tie.Else1) → length (boundsHeader ++ (figureRows (c .before .before .before .before .before .before .before .before .args .set) (c .before .before .before .before .before .before .before .before .args .t2))) ≤ length (c .before .before .before .before .before .before .before .before .args .out .now)
+abbrev text : tie.Start → List ℕ
+text s = boundsHeader ++ rowsText s
+
+-- the length that the test compares
+length-is : (c : tie.After-rows-length) → length (text (c .before .before)) ≡ 29 + c .rows-length .result
+length-is c = omega (arith, length-append boundsHeader (rowsText (c .before .before)), c .rows-length .ensures .0)
+
+fits : (c : tie.Else1) → length (text (c .before .before .before)) ≤ length (c .before .before .before .args .out .now)
 fits c = omega (arith, length-is (c .before), c .if1 .left)
 
 -- what stands in the buffer after the header and after the rows
-header : (c : tie.After-write-bytes) → Wrote (c .before .before .before .before .before .before .before .before .before .before .before .args .out .now) 0 ([] ++ boundsHeader) (c .write-bytes .last .1 .0) (c .write-bytes .result)
-header c = wrote-more boundsHeader (wrote-none (c .before .before .before .before .before .before .before .before .before .before .before .args .out .now) 0 (omega arith)) (c .write-bytes .ensures)
+header : (c : tie.After-write-bytes) → Wrote (c .before .before .before .before .before .before .args .out .now) 0 ([] ++ boundsHeader) (c .write-bytes .last .1 .0) (c .write-bytes .result)
+header c = wrote-more boundsHeader (wrote-none (c .before .before .before .before .before .before .args .out .now) 0 (omega arith)) (c .write-bytes .ensures)
 
-rows : (c : tie.After-write-rows) → Wrote (c .before .before .before .before .before .before .before .before .before .before .before .before .before .before .before .before .before .before .before .before .args .out .now) 0 (boundsHeader ++ (figureRows (c .before .before .before .before .before .before .before .before .before .before .before .before .before .before .before .before .before .before .before .before .args .set) (c .before .before .before .before .before .before .before .before .before .before .before .before .before .before .before .before .before .before .before .before .args .t2))) (c .write-rows .last .1 .1 .1 .1 .1 .0) (c .write-rows .result)
-rows c = wrote-more (figureRows (c .before .before .before .before .before .before .before .before .before .before .before .before .before .before .before .before .before .before .before .before .args .set) (c .before .before .before .before .before .before .before .before .before .before .before .before .before .before .before .before .before .before .before .before .args .t2)) (header (c .before .before .before .before .before .before .before .before .before)) (c .write-rows .ensures)
+rows : (c : tie.After-write-rows) → Wrote (c .before .before .before .before .before .before .before .before .before .before .args .out .now) 0 (text (c .before .before .before .before .before .before .before .before .before .before)) (c .write-rows .last .1 .1 .0) (c .write-rows .result)
+rows c = wrote-more (rowsText (c .before .before .before .before .before .before .before .before .before .before)) (header (c .before .before .before .before)) (c .write-rows .ensures)
 
 rows-length-requires : tie.Need-rows-length-requires
 rows-length-requires c κs = search needs
 
 add-length : tie.Need-add-length
-add-length c = let h = c .rows-length .ensures .1 in search (needs, h)
+add-length c = search (needs, c .rows-length .ensures .1)
 
 returns : tie.Need-returns
 returns c =
-    let text = boundsHeader ++ (figureRows (c .before .before .before .before .before .before .before .before .args .set) (c .before .before .before .before .before .before .before .before .args .t2)) in
-    let buffer = c .before .before .before .before .before .before .before .before .args .out .now in
-    (answer-short text buffer (omega (arith, length-is (c .before), c .if1 .taken)), sym (written-short text buffer (omega (arith, length-is (c .before), c .if1 .taken))))
+    let short : length (c .before .before .before .args .out .now) < length (text (c .before .before .before)) = omega (arith, length-is (c .before), c .if1 .taken) in
+    (answer-short (text (c .before .before .before)) (c .before .before .before .args .out .now) short, sym (written-short (text (c .before .before .before)) (c .before .before .before .args .out .now) short))
 
 slice-aggregate-write-bytes : tie.Need-slice-aggregate-write-bytes
 slice-aggregate-write-bytes c = search needs
@@ -46,18 +52,16 @@ write-bytes-requires : tie.Need-write-bytes-requires
 write-bytes-requires c κs = search needs
 
 write-rows-requires : tie.Need-write-rows-requires
-write-rows-requires c κs = (c .before .before .before .before .before .before .before .before .before .before .before .before .before .before .before .before .before .before .before .pre, wrote-room (figureRows (c .before .before .before .before .before .before .before .before .before .before .before .before .before .before .before .before .before .before .before .args .set) (c .before .before .before .before .before .before .before .before .before .before .before .before .before .before .before .before .before .before .before .args .t2)) (header (c .before .before .before .before .before .before .before .before)) (omega (arith, fits (c .before .before .before .before .before .before .before .before .before .before .before), length-append boundsHeader (figureRows (c .before .before .before .before .before .before .before .before .before .before .before .before .before .before .before .before .before .before .before .args .set) (c .before .before .before .before .before .before .before .before .before .before .before .before .before .before .before .before .before .before .before .args .t2)))))
+write-rows-requires c κs = (c .before .before .before .before .before .before .before .before .before .pre, wrote-room (rowsText (c .before .before .before .before .before .before .before .before .before)) (header (c .before .before .before)) (omega (arith, fits (c .before .before .before .before .before .before), length-append boundsHeader (rowsText (c .before .before .before .before .before .before .before .before .before)))))
 
-cast-t26 : tie.Need-cast-t26
-cast-t26 c = let h = c .before .before .before .before .before .before .before .before .before .before .before .before .before .before .before .rows-length .ensures .1 in search (needs, h)
+cast-t17 : tie.Need-cast-t17
+cast-t17 c = search (needs, c .before .before .before .before .before .before .before .before .before .before .rows-length .ensures .1)
 
 same-length : tie.Need-same-length
-same-length c = let h = wrote-length (rows (c .before .before)) (omega (arith, fits (c .before .before .before .before .before .before .before .before .before .before .before .before .before .before))) in search (needs, h)
+same-length c = search (needs, wrote-length (rows (c .before .before)) (omega (arith, fits (c .before .before .before .before .before .before .before .before .before))))
 
 returns-2 : tie.Need-returns-2
-returns-2 c =
-    let text = boundsHeader ++ (figureRows (c .before .before .before .before .before .before .before .before .before .before .before .before .before .before .before .before .before .before .before .before .before .before .args .set) (c .before .before .before .before .before .before .before .before .before .before .before .before .before .before .before .before .before .before .before .before .before .before .args .t2)) in
-    (answer-fits text (c .before .before .before .before .before .before .before .before .before .before .before .before .before .before .before .before .before .before .before .before .before .before .args .out .now) _ (fits (c .before .before .before .before .before .before .before .before .before .before .before .before .before .before)) (sym (length-is (c .before .before .before .before .before .before .before .before .before .before .before .before .before .before .before))), wrote-whole (rows (c .before .before)) (fits (c .before .before .before .before .before .before .before .before .before .before .before .before .before .before)) .1)
+returns-2 c = (answer-fits (text (c .before .before .before .before .before .before .before .before .before .before .before .before)) (c .before .before .before .before .before .before .before .before .before .before .before .before .args .out .now) _ (fits (c .before .before .before .before .before .before .before .before .before)) (sym (length-is (c .before .before .before .before .before .before .before .before .before .before))), wrote-whole (rows (c .before .before)) (fits (c .before .before .before .before .before .before .before .before .before)) .1)
 
 pub write-bounds-spec : {M : Type 1} → statement M
 write-bounds-spec =
@@ -69,6 +73,6 @@ write-bounds-spec =
     slice-aggregate-write-bytes
     write-bytes-requires
     write-rows-requires
-    cast-t26
+    cast-t17
     same-length
     returns-2)

@@ -2,45 +2,53 @@
 use mathlib.Core.List.{[], _++_}
 use native.Mathlib.Omega.{arith}
 use lib.ListN.{length-append}
+use mir.Syntax.{w64}
+use mir.Val.{SFits}
 use mir.Facts.{toZ-ofZ}
 use borrow.Author.Needs.{needs}
 use Rattle.laws.proofs.Buffers.{Wrote, wrote-none, wrote-more, wrote-room, wrote-length}
 use Rattle.report.proofs.Lines.{lineEnd, lineText}
 use Rattle.report.proofs.ColumnTexts.{columnsText}
-use Rattle.report.proofs.RowTexts.{slackText, slack-length, rowValues, rowOf, row-pieces, row-length}
+use Rattle.report.proofs.RowTexts.{slackText, slack-length, rowValues, integers, row-pieces, row-length}
 use Rattle.report.proofs.row.write_row.Statement.{statement}
 use Rattle.report.proofs.row.write_row.Tie as tie
 
+-- the slack is an integer of 64 bits
+slack-fits : (c : tie.After-struct-told) → SFits w64 (c .before .before .before .before .before .before .before .before .args .row .slack)
+slack-fits c = record { sfits = c .struct-told .given .1 .1 .1 .1 .1 .0 .1 }
+
 -- what stands in the buffer after each piece
-columns : (c : tie.After-write-columns) → Wrote (c .before .before .before .before .args .out .now) (c .before .before .before .before .args .at) ([] ++ columnsText (rowValues (c .before .before .before .before .args .job) (c .before .before .before .before .args .ert) (c .before .before .before .before .args .cja) (c .before .before .before .before .args .itr))) (c .write-columns .last .1 .0) (c .write-columns .result)
-columns c = wrote-more (columnsText (rowValues (c .before .before .before .before .args .job) (c .before .before .before .before .args .ert) (c .before .before .before .before .args .cja) (c .before .before .before .before .args .itr))) (wrote-none (c .before .before .before .before .args .out .now) (c .before .before .before .before .args .at) (omega (arith, c .before .before .before .before .pre))) (c .write-columns .ensures)
+columns : (c : tie.After-write-columns) → Wrote (c .before .before .before .before .args .out .now) (c .before .before .before .before .args .at) ([] ++ columnsText (rowValues (c .before .before .before .before .args .row))) (c .write-columns .last .1 .0) (c .write-columns .result)
+columns c = let a = c .before .before .before .before .args in wrote-more (columnsText (rowValues (a .row))) (wrote-none (a .out .now) (a .at) (omega (arith, c .before .before .before .before .pre))) (c .write-columns .ensures)
 
-slack : (c : tie.After-write-slack) → Wrote (c .before .before .before .before .before .before .before .before .args .out .now) (c .before .before .before .before .before .before .before .before .args .at) (([] ++ columnsText (rowValues (c .before .before .before .before .before .before .before .before .args .job) (c .before .before .before .before .before .before .before .before .args .ert) (c .before .before .before .before .before .before .before .before .args .cja) (c .before .before .before .before .before .before .before .before .args .itr))) ++ slackText (c .before .before .before .before .before .before .before .before .args .slack)) (c .write-slack .last .1 .0) (c .write-slack .result)
-slack c = wrote-more (slackText (c .before .before .before .before .before .before .before .before .args .slack)) (columns (c .before .before .before .before)) (rw (toZ-ofZ (c .before .before .before .before .before .before .before .before .fits .slack)) at (c .write-slack .ensures))
+slack : (c : tie.After-write-slack)
+    → Wrote (c .before .before .before .before .before .before .before .before .before .args .out .now) (c .before .before .before .before .before .before .before .before .before .args .at) (([] ++ columnsText (rowValues (c .before .before .before .before .before .before .before .before .before .args .row))) ++ slackText (c .before .before .before .before .before .before .before .before .before .args .row .slack)) (c .write-slack .last .1 .0) (c .write-slack .result)
+slack c = wrote-more (slackText (c .before .before .before .before .before .before .before .before .before .args .row .slack)) (columns (c .before .before .before .before .before)) (rw (toZ-ofZ (slack-fits (c .before))) at (c .write-slack .ensures))
 
-row : (c : tie.After-write-bytes) → Wrote (c .before .before .before .before .before .before .before .before .before .before .before .before .before .args .out .now) (c .before .before .before .before .before .before .before .before .before .before .before .before .before .args .at) (lineText (rowOf (c .before .before .before .before .before .before .before .before .before .before .before .before .before .args .job) (c .before .before .before .before .before .before .before .before .before .before .before .before .before .args .ert) (c .before .before .before .before .before .before .before .before .before .before .before .before .before .args .cja) (c .before .before .before .before .before .before .before .before .before .before .before .before .before .args .itr) (c .before .before .before .before .before .before .before .before .before .before .before .before .before .args .slack))) (c .write-bytes .last .1 .0) (c .write-bytes .result)
-row c = rw (← row-pieces (c .before .before .before .before .before .before .before .before .before .before .before .before .before .args .job) (c .before .before .before .before .before .before .before .before .before .before .before .before .before .args .ert) (c .before .before .before .before .before .before .before .before .before .before .before .before .before .args .cja) (c .before .before .before .before .before .before .before .before .before .before .before .before .before .args .itr) (c .before .before .before .before .before .before .before .before .before .before .before .before .before .args .slack)) (wrote-more lineEnd (slack (c .before .before .before .before .before)) (c .write-bytes .ensures))
+row : (c : tie.After-write-bytes) → Wrote (c .before .before .before .before .before .before .before .before .before .before .before .before .before .before .args .out .now) (c .before .before .before .before .before .before .before .before .before .before .before .before .before .before .args .at) (lineText (integers (c .before .before .before .before .before .before .before .before .before .before .before .before .before .before .args .row))) (c .write-bytes .last .1 .0) (c .write-bytes .result)
+row c = rw (← row-pieces (c .before .before .before .before .before .before .before .before .before .before .before .before .before .before .args .row)) (wrote-more lineEnd (slack (c .before .before .before .before .before)) (c .write-bytes .ensures))
 
 slice-aggregate-write-columns : tie.Need-slice-aggregate-write-columns
 slice-aggregate-write-columns c = search needs
 
 write-columns-requires : tie.Need-write-columns-requires
-write-columns-requires c κs = omega (arith, c .before .before .before .pre, row-length (c .before .before .before .args .job) (c .before .before .before .args .ert) (c .before .before .before .args .cja) (c .before .before .before .args .itr) (c .before .before .before .args .slack))
+write-columns-requires c κs = omega (arith, c .before .before .before .pre, row-length (c .before .before .before .args .row))
 
 write-slack-requires : tie.Need-write-slack-requires
 write-slack-requires c κs =
-    rw (toZ-ofZ (c .before .before .before .before .before .before .before .fits .slack))
-    (wrote-room (slackText (c .before .before .before .before .before .before .before .args .slack)) (columns (c .before .before .before)) (omega (arith, c .before .before .before .before .before .before .before .pre, row-length (c .before .before .before .before .before .before .before .args .job) (c .before .before .before .before .before .before .before .args .ert) (c .before .before .before .before .before .before .before .args .cja) (c .before .before .before .before .before .before .before .args .itr) (c .before .before .before .before .before .before .before .args .slack), slack-length (c .before .before .before .before .before .before .before .args .slack))))
+    let r = c .before .before .before .before .before .before .before .before .args .row in
+    rw (toZ-ofZ (slack-fits c)) (wrote-room (slackText (r .slack)) (columns (c .before .before .before .before)) (omega (arith, c .before .before .before .before .before .before .before .before .pre, row-length r, slack-length (r .slack))))
 
 slice-aggregate-write-bytes : tie.Need-slice-aggregate-write-bytes
 slice-aggregate-write-bytes c = search needs
 
 write-bytes-requires : tie.Need-write-bytes-requires
 write-bytes-requires c κs =
-    wrote-room lineEnd (slack (c .before .before .before .before)) (omega (arith, c .before .before .before .before .before .before .before .before .before .before .before .before .pre, row-length (c .before .before .before .before .before .before .before .before .before .before .before .before .args .job) (c .before .before .before .before .before .before .before .before .before .before .before .before .args .ert) (c .before .before .before .before .before .before .before .before .before .before .before .before .args .cja) (c .before .before .before .before .before .before .before .before .before .before .before .before .args .itr) (c .before .before .before .before .before .before .before .before .before .before .before .before .args .slack), slack-length (c .before .before .before .before .before .before .before .before .before .before .before .before .args .slack), length-append (columnsText (rowValues (c .before .before .before .before .before .before .before .before .before .before .before .before .args .job) (c .before .before .before .before .before .before .before .before .before .before .before .before .args .ert) (c .before .before .before .before .before .before .before .before .before .before .before .before .args .cja) (c .before .before .before .before .before .before .before .before .before .before .before .before .args .itr))) (slackText (c .before .before .before .before .before .before .before .before .before .before .before .before .args .slack))))
+    let r = c .before .before .before .before .before .before .before .before .before .before .before .before .before .args .row in
+    wrote-room lineEnd (slack (c .before .before .before .before)) (omega (arith, c .before .before .before .before .before .before .before .before .before .before .before .before .before .pre, row-length r, slack-length (r .slack), length-append (columnsText (rowValues r)) (slackText (r .slack))))
 
 same-length : tie.Need-same-length
-same-length c = let h = wrote-length (row (c .before .before)) (c .before .before .before .before .before .before .before .before .before .before .before .before .before .before .before .pre) in search (needs, h)
+same-length c = search (needs, wrote-length (row (c .before .before)) (c .before .before .before .before .before .before .before .before .before .before .before .before .before .before .before .before .pre))
 
 returns : tie.Need-returns
 returns c = (row (c .before .before) .place, row (c .before .before) .list)
