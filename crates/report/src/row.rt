@@ -1,13 +1,13 @@
 // A row of the bounds text.
 ghost use Rattle.laws.specs.Words.{_≡_, _+_, _≤_, _<_, [], _∷_, pos, length, getD, patched};
-ghost use Rattle.jobs.specs.{Limits.maxJobs, Jobs.jobAt};
+ghost use Rattle.jobs.specs.Limits.{maxJobs};
 ghost use Rattle.report.specs.Texts.{afterCommas, linesText};
 use crate::columns::columns_length;
 use crate::columns::write_bytes;
 use crate::columns::write_columns;
-use analysis::answer::Figures;
 use decimal::signed::signed_length;
 use decimal::signed::write_signed;
+use jobs::job::Job;
 use jobs::set::JobSet;
 
 // The columns of a row.
@@ -20,19 +20,25 @@ pub struct Row {
     pub slack: i64,
 }
 
-// The row of the job at place n.
-pub(crate) fn row_of(set: JobSet, figures: Figures, n: usize) -> Row
+// The row of the job at place n, whose bounds and slack stand at that place.
+pub(crate) fn row_of<'a>(
+    job: Job,
+    ert: &'a [u64; JobSet::MAX_JOBS],
+    cja: &'a [u64; JobSet::MAX_JOBS],
+    itr: &'a [u64; JobSet::MAX_JOBS],
+    slacks: &'a [i64; JobSet::MAX_JOBS],
+    n: usize,
+) -> Row
     requires { ⌜ n < maxJobs ⌝ }
-    ensures { λ r. let j = jobAt (set .jobs) n in ⌜ r ≡ record { chain = j .chain; job = j .job; ert = getD (figures .ert) n 0; cja = getD (figures .cja) n 0; itr = getD (figures .itr) n 0; slack = getD (figures .slacks) n (pos 0) } ⌝ }
+    ensures { λ r. ⌜ r ≡ record { chain = job .chain; job = job .job; ert = getD (now (ert .entry)) n 0; cja = getD (now (cja .entry)) n 0; itr = getD (now (itr .entry)) n 0; slack = getD (now (slacks .entry)) n (pos 0) } ⌝ }
 {
-    let job = set.jobs[n];
     Row {
         chain: job.chain,
         job: job.job,
-        ert: figures.ert[n],
-        cja: figures.cja[n],
-        itr: figures.itr[n],
-        slack: figures.slacks[n],
+        ert: ert[n],
+        cja: cja[n],
+        itr: itr[n],
+        slack: slacks[n],
     }
 }
 

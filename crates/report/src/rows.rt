@@ -17,7 +17,15 @@ pub(crate) fn rows_length(set: JobSet, figures: Figures) -> usize
     let mut sum: usize = 0;
     let mut n: usize = 0;
     while n < count {
-        sum += row_length(row_of(set, figures, n));
+        let row = row_of(
+            set.jobs[n],
+            &figures.ert,
+            &figures.cja,
+            &figures.itr,
+            &figures.slacks,
+            n,
+        );
+        sum += row_length(row);
         n += 1;
     }
     sum
@@ -33,7 +41,15 @@ pub(crate) fn write_rows(set: JobSet, figures: Figures, out: &mut [u8], at: usiz
     let mut next = at;
     let mut n: usize = 0;
     while n < count {
-        next = write_row(row_of(set, figures, n), out, next);
+        let row = row_of(
+            set.jobs[n],
+            &figures.ert,
+            &figures.cja,
+            &figures.itr,
+            &figures.slacks,
+            n,
+        );
+        next = write_row(row, out, next);
         n += 1;
     }
     next

@@ -19,11 +19,17 @@ abbrev μ-loop : tie.MeasureT-loop
 μ-loop set figures count sum₀ n₀ sum n = count - n
 
 -- the length of the row at the place
-row-is : (c : tie.After-row-length Inv-loop μ-loop) → c .row-length .result ≡ length (rowAt (c .before .before .before .before .args .set) (c .before .before .before .before .args .figures) (c .before .before .before .loop .n))
+row-is : (c : tie.After-row-length Inv-loop μ-loop) → c .row-length .result ≡ length (rowAt (c .before .before .before .before .before .before .before .before .before .before .args .t1) (c .before .before .before .before .before .before .before .before .before .before .args .t2) (c .before .before .before .before .before .before .before .before .before .loop .n))
 row-is c = c .row-length .ensures .0 ∙ ap (λ r. length (lineText (integers r))) (c .before .row-of .ensures)
 
 loop-holds : tie.Need-loop-holds Inv-loop μ-loop
 loop-holds c = (omega arith, omega arith, unfold linesText tabulate in refl)
+
+mul-row-of : tie.Need-mul-row-of Inv-loop μ-loop
+mul-row-of c = search needs
+
+element-copy-out-row-of : tie.Need-element-copy-out-row-of Inv-loop μ-loop
+element-copy-out-row-of c = search needs
 
 row-of-requires : tie.Need-row-of-requires Inv-loop μ-loop
 row-of-requires c κs = search needs
@@ -32,7 +38,7 @@ row-length-requires : tie.Need-row-length-requires Inv-loop μ-loop
 row-length-requires c κs = search needs
 
 add-sum : tie.Need-add-sum Inv-loop μ-loop
-add-sum c = search (needs, c .row-length .ensures .1, c .before .before .before .loop .inv .1, c .before .before .before .before .pre)
+add-sum c = search (needs, c .row-length .ensures .1, c .before .before .before .before .before .before .before .before .before .loop .inv .1, c .before .before .before .before .before .before .before .before .before .before .pre)
 
 add-n : tie.Need-add-n Inv-loop μ-loop
 add-n c = search needs
@@ -42,21 +48,33 @@ loop-less c = search needs
 
 loop-again : tie.Need-loop-again Inv-loop μ-loop
 loop-again c =
-    let a = c .before .before .before .before .args in
-    let l = c .before .before .before .loop in
-    let next = rows-made (a .set) (a .figures) (a .set .count) .next (l .n) (c .before .before .loop-test .taken) in (
+    let a = c .before .before .before .before .before .before .before .before .before .before .args in
+    let l = c .before .before .before .before .before .before .before .before .before .loop in
+    let next = rows-made (a .t1) (a .t2) (a .t1 .count) .next (l .n) (c .before .before .before .before .before .before .before .before .loop-test .taken) in (
       omega arith,
       omega (arith, l .inv .1, c .row-length .ensures .1),
-      omega (arith, l .inv .2, ap length next, length-append (firstRows (a .set) (a .figures) (l .n)) (rowAt (a .set) (a .figures) (l .n)), row-is c),
+      omega (arith, l .inv .2, ap length next, length-append (firstRows (a .t1) (a .t2) (l .n)) (rowAt (a .t1) (a .t2) (l .n)), row-is c),
     )
 
 returns : tie.Need-returns Inv-loop μ-loop
 returns c =
     let a = c .before .before .args in
     let l = c .before .loop in
-    (l .inv .2 ∙ ap (λ n. length (firstRows (a .set) (a .figures) n)) (omega (arith, l .inv .0)), omega (arith, l .inv .0, l .inv .1, c .before .before .pre))
+    (l .inv .2 ∙ ap (λ n. length (firstRows (a .t1) (a .t2) n)) (omega (arith, l .inv .0)), omega (arith, l .inv .0, l .inv .1, c .before .before .pre))
 
 pub rows-length-spec : {M : Type 1} → statement M
 rows-length-spec =
     tie.close
-    (tie.spec Inv-loop μ-loop loop-holds row-of-requires row-length-requires add-sum add-n loop-less loop-again returns)
+    (tie.spec
+    Inv-loop
+    μ-loop
+    loop-holds
+    mul-row-of
+    element-copy-out-row-of
+    row-of-requires
+    row-length-requires
+    add-sum
+    add-n
+    loop-less
+    loop-again
+    returns)

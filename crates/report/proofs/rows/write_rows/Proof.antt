@@ -7,19 +7,25 @@ use Rattle.report.proofs.rows.write_rows.Statement.{statement}
 use Rattle.report.proofs.rows.write_rows.Tie as tie
 
 abbrev Inv-loop : tie.InvT-loop
-Inv-loop set figures out₀ at count next₀ n₀ out next n = RowsWritten set figures count out₀ at out next n
+Inv-loop out₀ at set figures count next₀ n₀ out next n = RowsWritten set figures count out₀ at out next n
 
 abbrev μ-loop : tie.MeasureT-loop
-μ-loop set figures out₀ at count next₀ n₀ out next n = count - n
+μ-loop out₀ at set figures count next₀ n₀ out next n = count - n
 
 loop-holds : tie.Need-loop-holds Inv-loop μ-loop
-loop-holds c = let a = c .before .args in pieces-none (rows-made (a .set) (a .figures) (a .set .count)) (a .out .now) (a .at) (c .before .pre .1)
+loop-holds c = let a = c .before .args in pieces-none (rows-made (a .t1) (a .t2) (a .t1 .count)) (a .out .now) (a .at) (c .before .pre .1)
+
+mul-row-of : tie.Need-mul-row-of Inv-loop μ-loop
+mul-row-of c = search needs
+
+element-copy-out-row-of : tie.Need-element-copy-out-row-of Inv-loop μ-loop
+element-copy-out-row-of c = search needs
 
 row-of-requires : tie.Need-row-of-requires Inv-loop μ-loop
 row-of-requires c κs = search needs
 
 write-row-requires : tie.Need-write-row-requires Inv-loop μ-loop
-write-row-requires c κs = rw (c .before .row-of .ensures) (pieces-room (c .before .before .before .loop .inv) (c .before .before .loop-test .taken))
+write-row-requires c κs = rw (c .before .row-of .ensures) (pieces-room (c .before .before .before .before .before .before .before .before .before .loop .inv) (c .before .before .before .before .before .before .before .before .loop-test .taken))
 
 add-n : tie.Need-add-n Inv-loop μ-loop
 add-n c = search needs
@@ -28,7 +34,7 @@ loop-less : tie.Need-loop-less Inv-loop μ-loop
 loop-less c = search needs
 
 loop-again : tie.Need-loop-again Inv-loop μ-loop
-loop-again c = pieces-more (c .before .before .before .before .before .before .loop .inv) (c .before .before .before .before .before .loop-test .taken) (rw (c .before .before .before .before .row-of .ensures) at (c .before .before .write-row .ensures))
+loop-again c = pieces-more (c .before .before .before .before .before .before .before .before .before .before .before .before .loop .inv) (c .before .before .before .before .before .before .before .before .before .before .before .loop-test .taken) (rw (c .before .before .before .before .row-of .ensures) at (c .before .before .write-row .ensures))
 
 same-length : tie.Need-same-length Inv-loop μ-loop
 same-length c = search (needs, pieces-same (c .before .loop .inv))
@@ -39,4 +45,16 @@ returns c = pieces-end (c .before .loop .inv) (c .loop-test .left)
 pub write-rows-spec : {M : Type 1} → statement M
 write-rows-spec =
     tie.close
-    (tie.spec Inv-loop μ-loop loop-holds row-of-requires write-row-requires add-n loop-less loop-again same-length returns)
+    (tie.spec
+    Inv-loop
+    μ-loop
+    loop-holds
+    mul-row-of
+    element-copy-out-row-of
+    row-of-requires
+    write-row-requires
+    add-n
+    loop-less
+    loop-again
+    same-length
+    returns)
