@@ -215,23 +215,15 @@ module _ (js : List Job) (times before : List ℕ) where
       pub put-room : 4 * p .entry + 3 < length out
       put-room = omega (arith, here .below, here .entries-is, ap length (spans-ran t times u time e), few-spans (time + 1), written-length)
 
-      pub put-few : 4 * p .entry + 3 < 8 * maxJobs
-      put-few = omega (arith, here .below, here .entries-is, ap length (spans-ran t times u time e), few-spans (time + 1), few-jobs js times passed)
-
-      pub written-ran : (chain job : ℕ) → chain ≡ jobAt js u .chain → job ≡ jobAt js u .job
-          → Written js times before (set (set (set (set out (4 * p .entry) chain) (4 * p .entry + 1) job) (4 * p .entry + 2) (p .span .from)) (4 * p .entry + 3) (p .span .to)) (p .span) (p .entries) (time + 1)
-      written-ran chain job c j =
+      pub written-ran : (job : Job) → jobAt js u ≡ job
+          → Written js times before (patched out (4 * p .entry) (job .chain ∷ job .job ∷ p .span .from ∷ p .span .to ∷ [])) (p .span) (p .entries) (time + 1)
+      written-ran job j =
           let s = spans-ran t times u time e in
-          let k = 4 * p .entry in
-          let c' : chain ≡ jobAt js (p .span .at) .chain = c ∙ ap (λ (i : ℕ). jobAt js i .chain) (sym (here .job-is)) in
-          let j' : job ≡ jobAt js (p .span .at) .job = j ∙ ap (λ (i : ℕ). jobAt js i .job) (sym (here .job-is)) in
+          let j' : job ≡ jobAt js (p .span .at) = sym j ∙ ap (jobAt js) (sym (here .job-is)) in
           record {
             count = here .entries-is ∙ ap length (sym s);
             latest-is = here .last-is ∙ ap latest (sym s);
-            buffer =
-                four-stored out k chain job (p .span .from) (p .span .to) put-room
-                ∙ rw (c', j', w .buffer) (here .buffer before)
-                ∙ ap (λ (l : List Span). patched before 0 (rows js l)) (sym s);
+            buffer = rw (j', w .buffer) (here .buffer before) ∙ ap (λ (l : List Span). patched before 0 (rows js l)) (sym s);
           }
 
     -- the end

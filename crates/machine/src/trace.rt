@@ -1,5 +1,5 @@
 // The trace of the run from time 0, into a lent buffer.
-ghost use Rattle.laws.specs.Words.{_≡_, _+_, _-_, _*_, _<_, _≤_, cond, _&&_, ltb, eqb, length, patched};
+ghost use Rattle.laws.specs.Words.{_≡_, _+_, _-_, _*_, _<_, _≤_, cond, _&&_, ltb, eqb, length, patched, _∷_, []};
 ghost use Rattle.jobs.specs.{Limits.maxJobs, Jobs.jobsOf};
 ghost use Rattle.machine.specs.{Ticks.lastTime, Ticks.machineCheck, Runs.rows, Runs.traced, Runs.traceOf, Runs.tracedIn};
 use crate::columns::columns_of;
@@ -7,6 +7,7 @@ use crate::idle::next_time;
 use crate::pick::best_of;
 use crate::times::check_times;
 use crate::times::total;
+use jobs::job::Job;
 use jobs::refusal::Check;
 use jobs::refusal::Refusal;
 use jobs::set::JobSet;
@@ -57,6 +58,18 @@ fn put_at(last: Span, entries: usize, at: usize, time: u64) -> Put
     }
 }
 
+// Writes the four numbers of an entry.
+fn write_entry(job: Job, put: Put, out: &mut [u64])
+    requires { ⌜ 4 * put .entry + 3 < length (now out) ⌝ }
+    ensures { λ _. ⌜ now (out .exit) ≡ patched (now (out .entry)) (4 * put .entry) (job .chain ∷ job .job ∷ put .span .from ∷ put .span .to ∷ []) ⌝ }
+{
+    let k = 4 * put.entry;
+    out[k] = job.chain;
+    out[k + 1] = job.job;
+    out[k + 2] = put.span.from;
+    out[k + 3] = put.span.to;
+}
+
 // The entries of a set and running times that have passed, into a buffer with room for them; the answer is their number.
 fn write_entries(set: JobSet, times: &[u64], out: &mut [u64]) -> usize
     requires { ⌜ (machineCheck (jobsOf set) (now times) ≡ Check.Passed) × (8 * set .count ≤ length (now out)) ⌝ }
@@ -79,16 +92,12 @@ fn write_entries(set: JobSet, times: &[u64], out: &mut [u64]) -> usize
         let best = best_of(set.count, &chain, &urgency, &release, times, &work, time);
         if best.found {
             let at = best.at;
-            let put = put_at(last, entries, at, time);
-            last = put.span;
-            entries = put.entries;
-            let k = 4 * put.entry;
-            out[k] = set.jobs[at].chain;
-            out[k + 1] = set.jobs[at].job;
-            out[k + 2] = last.from;
-            out[k + 3] = last.to;
             work[at] = work[at] + 1;
             left -= 1;
+            let put = put_at(last, entries, at, time);
+            write_entry(set.jobs[at], put, out);
+            last = put.span;
+            entries = put.entries;
         }
         time = next_time(best.found, set.count, &release, time);
     }

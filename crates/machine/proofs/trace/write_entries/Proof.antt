@@ -1,22 +1,17 @@
 -- `write_entries` meets its contract. The loop's invariant: the state of the run at this time is reached, and its spans are written. Assumes nothing.
-use Prim.Native.Nat.{_+_, _*_, _-_, _≤_, _<_}
-use mathlib.Core.Path.{_≡_, sym, ap}
+use Prim.Native.Nat.{_*_, _-_, _≤_}
 use mathlib.Core.Logic.{⊎-elim}
-use mathlib.Core.Bool.{true}
 use native.Mathlib.Omega.{arith}
-use lib.ListN.{length, length-set}
+use lib.ListN.{length}
 use borrow.Author.Needs.{needs}
 use denote.Ref.{now}
-use Rattle.jobs.specs.Limits.{maxJobs}
 use Rattle.jobs.specs.Jobs.{jobsOf}
 use Rattle.jobs.proofs.Sets.{length-jobs, job-at}
-use Rattle.jobs.specs.declared.job.Job.{Job}
-use Rattle.machine.specs.declared.trace.Put.{Put}
 use Rattle.machine.specs.Ticks.{lastTime}
 use Rattle.machine.proofs.RunningTimes.{set-accepted, times-brief}
 use Rattle.machine.proofs.Ticking.{Prepared, count-few, count-times}
 use Rattle.machine.proofs.Running.{Reached, reached-start, Turn, turn-early, turn-room, turn-inside, turn-work, turn-reached, turn-entry, turn-later, turn-ran, idle-reached, idle-kept}
-use Rattle.machine.proofs.Tracing.{putAt, Written, written-start, written-few, written-length, written-idle, put-room, put-few, written-ran, written-count, written-all}
+use Rattle.machine.proofs.Tracing.{Written, written-start, written-few, written-length, written-idle, put-room, written-ran, written-count, written-all}
 use Rattle.machine.proofs.trace.write_entries.Statement.{statement}
 use Rattle.machine.proofs.trace.write_entries.Tie as tie
 
@@ -46,14 +41,6 @@ module _ (c : tie.After-best-of Inv-loop μ-loop) where
   turn : Turn (begun .args .t1) (made .columns-of .result) (now (begun .args .times)) (head .loop .work) (head .loop .left) (head .loop .time) (c .best-of .result)
   turn = record { prepared = prepared made; reached = head .loop .inv .0; more = c .before .before .before .before .before .loop-test .taken; scanned = c .best-of .ensures }
 
-  -- the entry that is written has its four places
-  module _ (f : c .best-of .result .found ≡ true) (p : Put) (e : p ≡ putAt (head .loop .last) (head .loop .entries) (c .best-of .result .at) (head .loop .time)) where
-    small : 4 * p .entry + 3 < 8 * maxJobs
-    small = put-few _ _ _ (begun .pre .0) (wide begun) (head .loop .inv .1) _ (turn-entry turn f) p e
-
-    fits : 4 * p .entry + 3 < length (head .loop .out)
-    fits = put-room _ _ _ (begun .pre .0) (wide begun) (head .loop .inv .1) _ (turn-entry turn f) p e
-
 columns-of-requires : tie.Need-columns-of-requires Inv-loop μ-loop
 columns-of-requires c κs = set-accepted _ _ (c .before .before .pre .0)
 
@@ -66,74 +53,37 @@ loop-holds c = (reached-start _ _ (c .before .before .before .before .before .be
 best-of-requires : tie.Need-best-of-requires Inv-loop μ-loop
 best-of-requires c κs = (count-few _ _ (prepared (c .before .before .before .before .before .before .before .before .before .before) .0), count-times _ _ (prepared (c .before .before .before .before .before .before .before .before .before .before) .0))
 
-put-at-requires : tie.Need-put-at-requires Inv-loop μ-loop
-put-at-requires c κs = let scan = c .before in (written-few _ _ _ (begun scan .pre .0) (wide (begun scan)) (head scan .loop .inv .1), turn-early (turn scan))
-
-mul-k : tie.Need-mul-k Inv-loop μ-loop
-mul-k c = omega (arith, small (c .before .before .before .before) (c .before .before .before .if1 .taken) _ (c .before .before .put-at .ensures))
-
-mul-out : tie.Need-mul-out Inv-loop μ-loop
-mul-out c = omega (arith, turn-room (turn (c .before .before .before .before)) (c .before .before .before .if1 .taken))
-
-element-copy-out-out : tie.Need-element-copy-out-out Inv-loop μ-loop
-element-copy-out-out c = turn-room (turn (c .before .before .before .before)) (c .before .before .before .if1 .taken)
-
-mul-out-2 : tie.Need-mul-out-2 Inv-loop μ-loop
-mul-out-2 c = omega (arith, small (c .before .before .before .before) (c .before .before .before .if1 .taken) _ (c .before .before .put-at .ensures))
-
-slice-write-out : tie.Need-slice-write-out Inv-loop μ-loop
-slice-write-out c = omega (arith, fits (c .before .before .before .before) (c .before .before .before .if1 .taken) _ (c .before .before .put-at .ensures))
-
-mul-out-3 : tie.Need-mul-out-3 Inv-loop μ-loop
-mul-out-3 c = omega (arith, turn-room (turn (c .before .before .before .before)) (c .before .before .before .if1 .taken))
-
-element-copy-out-out-2 : tie.Need-element-copy-out-out-2 Inv-loop μ-loop
-element-copy-out-out-2 c = turn-room (turn (c .before .before .before .before)) (c .before .before .before .if1 .taken)
-
-add-out : tie.Need-add-out Inv-loop μ-loop
-add-out c = omega (arith, small (c .before .before .before .before) (c .before .before .before .if1 .taken) _ (c .before .before .put-at .ensures))
-
-mul-out-4 : tie.Need-mul-out-4 Inv-loop μ-loop
-mul-out-4 c = omega (arith, small (c .before .before .before .before) (c .before .before .before .if1 .taken) _ (c .before .before .put-at .ensures))
-
-slice-write-out-2 : tie.Need-slice-write-out-2 Inv-loop μ-loop
-slice-write-out-2 c = rw length-set (omega (arith, fits (c .before .before .before .before) (c .before .before .before .if1 .taken) _ (c .before .before .put-at .ensures)))
-
-add-out-2 : tie.Need-add-out-2 Inv-loop μ-loop
-add-out-2 c = omega (arith, small (c .before .before .before .before) (c .before .before .before .if1 .taken) _ (c .before .before .put-at .ensures))
-
-mul-out-5 : tie.Need-mul-out-5 Inv-loop μ-loop
-mul-out-5 c = omega (arith, small (c .before .before .before .before) (c .before .before .before .if1 .taken) _ (c .before .before .put-at .ensures))
-
-slice-write-out-3 : tie.Need-slice-write-out-3 Inv-loop μ-loop
-slice-write-out-3 c = rw (length-set, length-set) (omega (arith, fits (c .before .before .before .before) (c .before .before .before .if1 .taken) _ (c .before .before .put-at .ensures)))
-
-add-out-3 : tie.Need-add-out-3 Inv-loop μ-loop
-add-out-3 c = omega (arith, small (c .before .before .before .before) (c .before .before .before .if1 .taken) _ (c .before .before .put-at .ensures))
-
-mul-out-6 : tie.Need-mul-out-6 Inv-loop μ-loop
-mul-out-6 c = omega (arith, small (c .before .before .before .before) (c .before .before .before .if1 .taken) _ (c .before .before .put-at .ensures))
-
-slice-write-out-4 : tie.Need-slice-write-out-4 Inv-loop μ-loop
-slice-write-out-4 c = rw (length-set, length-set, length-set) (omega (arith, fits (c .before .before .before .before) (c .before .before .before .if1 .taken) _ (c .before .before .put-at .ensures)))
-
 mul-work : tie.Need-mul-work Inv-loop μ-loop
-mul-work c = omega (arith, turn-room (turn (c .before .before .before .before)) (c .before .before .before .if1 .taken))
+mul-work c = omega (arith, turn-room (turn (c .before)) (c .if1 .taken))
 
 array-read-work : tie.Need-array-read-work Inv-loop μ-loop
-array-read-work c = turn-room (turn (c .before .before .before .before)) (c .before .before .before .if1 .taken)
+array-read-work c = turn-room (turn (c .before)) (c .if1 .taken)
 
 add-work : tie.Need-add-work Inv-loop μ-loop
-add-work c = omega (arith, turn-work (turn (c .before .before .before .before)) (c .before .before .before .if1 .taken), c .before .before .before .before .before .before .before .before .before .before .before .before .before .before .before .before .before .shared-slice-known .given (c .before .before .before .before .best-of .result .at))
+add-work c = omega (arith, turn-work (turn (c .before)) (c .if1 .taken), c .before .before .before .before .before .before .before .before .before .before .before .before .before .before .shared-slice-known .given (c .before .best-of .result .at))
 
 mul-work-2 : tie.Need-mul-work-2 Inv-loop μ-loop
-mul-work-2 c = omega (arith, turn-room (turn (c .before .before .before .before)) (c .before .before .before .if1 .taken))
+mul-work-2 c = omega (arith, turn-room (turn (c .before)) (c .if1 .taken))
 
 array-write-work : tie.Need-array-write-work Inv-loop μ-loop
-array-write-work c = turn-room (turn (c .before .before .before .before)) (c .before .before .before .if1 .taken)
+array-write-work c = turn-room (turn (c .before)) (c .if1 .taken)
 
 sub-left : tie.Need-sub-left Inv-loop μ-loop
 sub-left c = search needs
+
+put-at-requires : tie.Need-put-at-requires Inv-loop μ-loop
+put-at-requires c κs = let scan = c .before in (written-few _ _ _ (begun scan .pre .0) (wide (begun scan)) (head scan .loop .inv .1), turn-early (turn scan))
+
+mul-write-entry : tie.Need-mul-write-entry Inv-loop μ-loop
+mul-write-entry c = omega (arith, turn-room (turn (c .before .before)) (c .before .if1 .taken))
+
+element-copy-out-write-entry : tie.Need-element-copy-out-write-entry Inv-loop μ-loop
+element-copy-out-write-entry c = turn-room (turn (c .before .before)) (c .before .if1 .taken)
+
+write-entry-requires : tie.Need-write-entry-requires Inv-loop μ-loop
+write-entry-requires c κs =
+    let scan = c .before .before .before .before in
+    put-room _ _ _ (begun scan .pre .0) (wide (begun scan)) (head scan .loop .inv .1) _ (turn-entry (turn scan) (c .before .before .before .if1 .taken)) _ (c .before .before .put-at .ensures)
 
 next-time-requires : tie.Need-next-time-requires Inv-loop μ-loop
 next-time-requires c κs = let t = turn (c .before .before) in (count-few _ _ (t .prepared .0), turn-early t)
@@ -150,10 +100,9 @@ loop-again c =
     ⊎-elim
     (λ w.
     let f = w .0 .taken in
-    let j = job-at (begun scan .args .t1) (scan .best-of .result .at) (turn-inside t f) in
-    rw (w .4, w .5, w .6, w .7, w .8, turn-ran t _ (c .next-time .ensures) f) (
+    rw (w .8, w .9, w .10, w .11, w .12, w .4 .ensures, turn-ran t _ (c .next-time .ensures) f) (
       turn-reached t f,
-      written-ran _ _ _ passed (wide (begun scan)) written _ (turn-entry t f) _ (w .1 .ensures) _ _ (ap (λ (x : Job). x .chain) (sym j)) (ap (λ (x : Job). x .job) (sym j)),
+      written-ran _ _ _ passed (wide (begun scan)) written _ (turn-entry t f) _ (w .1 .ensures) _ (job-at _ _ (turn-inside t f)),
     ))
     (λ w.
     let f = w .0 .left in
@@ -179,29 +128,16 @@ write-entries-spec =
     total-requires
     loop-holds
     best-of-requires
-    put-at-requires
-    mul-k
-    mul-out
-    element-copy-out-out
-    mul-out-2
-    slice-write-out
-    mul-out-3
-    element-copy-out-out-2
-    add-out
-    mul-out-4
-    slice-write-out-2
-    add-out-2
-    mul-out-5
-    slice-write-out-3
-    add-out-3
-    mul-out-6
-    slice-write-out-4
     mul-work
     array-read-work
     add-work
     mul-work-2
     array-write-work
     sub-left
+    put-at-requires
+    mul-write-entry
+    element-copy-out-write-entry
+    write-entry-requires
     next-time-requires
     loop-less
     loop-again
