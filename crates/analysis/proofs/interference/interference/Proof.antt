@@ -67,7 +67,9 @@ share-requires c κs =
 
 -- the shares with that of the chain at hand
 shared : (c : tie.After-share Inv-loop μ-loop)
-    → Shared (table (c .before .before .before .before .before)) (c .before .before .before .before .before .args .own) (c .before .before .before .before .before .args .target) (counts (c .before .before .before .before .before)) maxTime (end-at (c .before .before .before .before)) (c .before .before .before .before .loop .total + c .share .result)
+    → let l = c .before .before .before .before in
+    let s = l .before in
+    Shared (table s) (s .args .own) (s .args .target) (counts s) maxTime (end-at l) (l .loop .total + c .share .result)
 shared c =
     shared-at (c .before .before .before .before) (c .before .before .before .loop-test .taken) (c .share .result)
     (c .share .ensures ∙ rw (c .before .figure2 .ensures, c .before .before .figure .ensures))

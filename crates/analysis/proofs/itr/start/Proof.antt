@@ -26,7 +26,7 @@ none i = 0
 
 -- the time from which the bound of the job at hand counts, by its place in the table
 timed : (c : tie.After-not-before Inv-loop μ-loop)
-    → c .not-before .result ≡ notBefore (c .before .before .before .before .loop .last) (table (c .before .before .before .before .before) .chain (c .before .before .before .before .loop .i)) (table (c .before .before .before .before .before) .latest (c .before .before .before .before .loop .i)) (c .before .before .before .before .loop .bound)
+    → let t = table (c .before .before .before .before .before) in let l = c .before .before .before .before .loop in c .not-before .result ≡ notBefore (l .last) (t .chain (l .i)) (t .latest (l .i)) (l .bound)
 timed c = c .not-before .ensures ∙ rw (c .before .figure2 .ensures, c .before .before .figure .ensures)
 
 loop-holds : tie.Need-loop-holds Inv-loop μ-loop

@@ -70,11 +70,15 @@ figure-requires-4 : tie.Need-figure-requires-4 Inv-loop μ-loop
 figure-requires-4 c κs = search needs
 
 -- the lowest urgency with that of the job at hand, and the interference on the pair, by their places in the table
-lowered : (c : tie.After-lower Inv-loop μ-loop) → c .lower .result ≡ min (c .before .before .before .before .before .before .loop .low) (table (c .before .before .before .before .before .before .before .before .before .before) .urgency (c .before .before .before .before .before .before .loop .k - 1))
+lowered : (c : tie.After-lower Inv-loop μ-loop)
+    → let s = c .before .before .before .before .before .before .before .before .before .before in let l = c .before .before .before .before .before .before .loop in c .lower .result ≡ min (l .low) (table s .urgency (l .k - 1))
 lowered c = c .lower .ensures ∙ rw (c .before .figure5 .ensures)
 
 delayed : (c : tie.After-interference Inv-loop μ-loop)
-    → c .interference .result ≡ interference (table (c .before .before .before .before .before .before .before .before .before .before .before .before)) (table (c .before .before .before .before .before .before .before .before .before .before .before .before) .chain (c .before .before .before .before .before .before .before .before .before .before .before .before .args .j)) (c .before .before .lower .result) (spanned (c .before .before .before .before .before .before .before .before .before .before .before .before .args .columns .now) (c .before .before .before .before .before .before .before .before .before .before .before .before .args .bound .now) (table (c .before .before .before .before .before .before .before .before .before .before .before .before) .earliest (c .before .before .before .before .before .before .before .before .loop .k - 1)) (numberAt (c .before .before .before .before .before .before .before .before .before .before .before .before .args .bound .now) (c .before .before .before .before .before .before .before .before .before .before .before .before .args .j)))
+    → let s = c .before .before .before .before .before .before .before .before .before .before .before .before in
+    let a = s .args in
+    let from = table s .earliest (c .before .before .before .before .before .before .before .before .loop .k - 1) in
+    c .interference .result ≡ interference (table s) (table s .chain (a .j)) (c .before .before .lower .result) (spanned (a .columns .now) (a .bound .now) from (numberAt (a .bound .now) (a .j)))
 delayed c = c .interference .ensures ∙ rw (c .before .figure6 .ensures, c .before .before .before .before .before .before .before .before .before .before .before .figure .ensures)
 
 add-sum : tie.Need-add-sum Inv-loop μ-loop

@@ -31,7 +31,8 @@ fits c = omega (arith, length-is (c .before), c .if1 .left)
 header : (c : tie.After-write-bytes) → Wrote (c .before .before .before .before .before .before .args .out .now) 0 ([] ++ boundsHeader) (c .write-bytes .last .1 .0) (c .write-bytes .result)
 header c = wrote-more boundsHeader (wrote-none (c .before .before .before .before .before .before .args .out .now) 0 (omega arith)) (c .write-bytes .ensures)
 
-rows : (c : tie.After-write-rows) → Wrote (c .before .before .before .before .before .before .before .before .before .before .args .out .now) 0 (text (c .before .before .before .before .before .before .before .before .before .before)) (c .write-rows .last .1 .1 .0) (c .write-rows .result)
+rows : (c : tie.After-write-rows)
+    → let s = c .before .before .before .before .before .before .before .before .before .before in Wrote (s .args .out .now) 0 (text s) (c .write-rows .last .1 .1 .0) (c .write-rows .result)
 rows c = wrote-more (rowsText (c .before .before .before .before .before .before .before .before .before .before)) (header (c .before .before .before .before)) (c .write-rows .ensures)
 
 rows-length-requires : tie.Need-rows-length-requires
@@ -42,8 +43,10 @@ add-length c = search (needs, c .rows-length .ensures .1)
 
 returns : tie.Need-returns
 returns c =
-    let short : length (c .before .before .before .args .out .now) < length (text (c .before .before .before)) = omega (arith, length-is (c .before), c .if1 .taken) in
-    (answer-short (text (c .before .before .before)) (c .before .before .before .args .out .now) short, sym (written-short (text (c .before .before .before)) (c .before .before .before .args .out .now) short))
+    let s = c .before .before .before in
+    let buffer = s .args .out .now in
+    let short : length buffer < length (text s) = omega (arith, length-is (c .before), c .if1 .taken) in
+    (answer-short (text s) buffer short, sym (written-short (text s) buffer short))
 
 slice-aggregate-write-bytes : tie.Need-slice-aggregate-write-bytes
 slice-aggregate-write-bytes c = search needs
@@ -52,7 +55,9 @@ write-bytes-requires : tie.Need-write-bytes-requires
 write-bytes-requires c κs = search needs
 
 write-rows-requires : tie.Need-write-rows-requires
-write-rows-requires c κs = (c .before .before .before .before .before .before .before .before .before .pre, wrote-room (rowsText (c .before .before .before .before .before .before .before .before .before)) (header (c .before .before .before)) (omega (arith, fits (c .before .before .before .before .before .before), length-append boundsHeader (rowsText (c .before .before .before .before .before .before .before .before .before)))))
+write-rows-requires c κs =
+    let s = c .before .before .before .before .before .before .before .before .before in
+    (s .pre, wrote-room (rowsText s) (header (c .before .before .before)) (omega (arith, fits (c .before .before .before .before .before .before), length-append boundsHeader (rowsText s))))
 
 cast-t17 : tie.Need-cast-t17
 cast-t17 c = search (needs, c .before .before .before .before .before .before .before .before .before .before .rows-length .ensures .1)
@@ -61,7 +66,10 @@ same-length : tie.Need-same-length
 same-length c = search (needs, wrote-length (rows (c .before .before)) (omega (arith, fits (c .before .before .before .before .before .before .before .before .before))))
 
 returns-2 : tie.Need-returns-2
-returns-2 c = (answer-fits (text (c .before .before .before .before .before .before .before .before .before .before .before .before)) (c .before .before .before .before .before .before .before .before .before .before .before .before .args .out .now) _ (fits (c .before .before .before .before .before .before .before .before .before)) (sym (length-is (c .before .before .before .before .before .before .before .before .before .before))), wrote-whole (rows (c .before .before)) (fits (c .before .before .before .before .before .before .before .before .before)) .1)
+returns-2 c =
+    let s = c .before .before .before .before .before .before .before .before .before .before .before .before in
+    let fit = fits (c .before .before .before .before .before .before .before .before .before) in
+    (answer-fits (text s) (s .args .out .now) _ fit (sym (length-is (c .before .before .before .before .before .before .before .before .before .before))), wrote-whole (rows (c .before .before)) fit .1)
 
 pub write-bounds-spec : {M : Type 1} → statement M
 write-bounds-spec =

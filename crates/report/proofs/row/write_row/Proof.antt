@@ -18,14 +18,18 @@ slack-fits : (c : tie.After-struct-told) → SFits w64 (c .before .before .befor
 slack-fits c = record { sfits = c .struct-told .given .1 .1 .1 .1 .1 .0 .1 }
 
 -- what stands in the buffer after each piece
-columns : (c : tie.After-write-columns) → Wrote (c .before .before .before .before .args .out .now) (c .before .before .before .before .args .at) ([] ++ columnsText (rowValues (c .before .before .before .before .args .row))) (c .write-columns .last .1 .0) (c .write-columns .result)
-columns c = let a = c .before .before .before .before .args in wrote-more (columnsText (rowValues (a .row))) (wrote-none (a .out .now) (a .at) (omega (arith, c .before .before .before .before .pre))) (c .write-columns .ensures)
+columns : (c : tie.After-write-columns)
+    → let a = c .before .before .before .before .args in Wrote (a .out .now) (a .at) ([] ++ columnsText (rowValues (a .row))) (c .write-columns .last .1 .0) (c .write-columns .result)
+columns c =
+    let a = c .before .before .before .before .args in
+    wrote-more (columnsText (rowValues (a .row))) (wrote-none (a .out .now) (a .at) (omega (arith, c .before .before .before .before .pre))) (c .write-columns .ensures)
 
 slack : (c : tie.After-write-slack)
-    → Wrote (c .before .before .before .before .before .before .before .before .before .args .out .now) (c .before .before .before .before .before .before .before .before .before .args .at) (([] ++ columnsText (rowValues (c .before .before .before .before .before .before .before .before .before .args .row))) ++ slackText (c .before .before .before .before .before .before .before .before .before .args .row .slack)) (c .write-slack .last .1 .0) (c .write-slack .result)
+    → let a = c .before .before .before .before .before .before .before .before .before .args in Wrote (a .out .now) (a .at) (([] ++ columnsText (rowValues (a .row))) ++ slackText (a .row .slack)) (c .write-slack .last .1 .0) (c .write-slack .result)
 slack c = wrote-more (slackText (c .before .before .before .before .before .before .before .before .before .args .row .slack)) (columns (c .before .before .before .before .before)) (rw (toZ-ofZ (slack-fits (c .before))) at (c .write-slack .ensures))
 
-row : (c : tie.After-write-bytes) → Wrote (c .before .before .before .before .before .before .before .before .before .before .before .before .before .before .args .out .now) (c .before .before .before .before .before .before .before .before .before .before .before .before .before .before .args .at) (lineText (integers (c .before .before .before .before .before .before .before .before .before .before .before .before .before .before .args .row))) (c .write-bytes .last .1 .0) (c .write-bytes .result)
+row : (c : tie.After-write-bytes)
+    → let a = c .before .before .before .before .before .before .before .before .before .before .before .before .before .before .args in Wrote (a .out .now) (a .at) (lineText (integers (a .row))) (c .write-bytes .last .1 .0) (c .write-bytes .result)
 row c = rw (← row-pieces (c .before .before .before .before .before .before .before .before .before .before .before .before .before .before .args .row)) (wrote-more lineEnd (slack (c .before .before .before .before .before)) (c .write-bytes .ensures))
 
 slice-aggregate-write-columns : tie.Need-slice-aggregate-write-columns

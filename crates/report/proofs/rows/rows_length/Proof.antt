@@ -19,7 +19,8 @@ abbrev μ-loop : tie.MeasureT-loop
 μ-loop set figures count sum₀ n₀ sum n = count - n
 
 -- the length of the row at the place
-row-is : (c : tie.After-row-length Inv-loop μ-loop) → c .row-length .result ≡ length (rowAt (c .before .before .before .before .before .before .before .before .before .before .args .t1) (c .before .before .before .before .before .before .before .before .before .before .args .t2) (c .before .before .before .before .before .before .before .before .before .loop .n))
+row-is : (c : tie.After-row-length Inv-loop μ-loop)
+    → let a = c .before .before .before .before .before .before .before .before .before .before .args in c .row-length .result ≡ length (rowAt (a .t1) (a .t2) (c .before .before .before .before .before .before .before .before .before .loop .n))
 row-is c = c .row-length .ensures .0 ∙ ap (λ r. length (lineText (integers r))) (c .before .row-of .ensures)
 
 loop-holds : tie.Need-loop-holds Inv-loop μ-loop
