@@ -28,16 +28,24 @@ sub-less : tie.Need-sub-less
 sub-less c = step-flip (c .before .before .args .value) (c .before .before .fits .value) (below c)
 
 cast-result : tie.Need-cast-result
-cast-result c = rw (step-all (c .before .before .args .value) (c .before .before .fits .value) (below c)) (tt, record { fits = omega (arith, c .before .before .fits .value .sfits) })
+cast-result c =
+    let s = c .before .before in
+    rw (step-all (s .args .value) (s .fits .value) (below c)) (tt, record { fits = omega (arith, s .fits .value .sfits) })
 
 add-result : tie.Need-add-result
-add-result c = rw (step-all (c .before .before .args .value) (c .before .before .fits .value) (below c)) (record { fits = omega (arith, c .before .before .fits .value .sfits) })
+add-result c =
+    let s = c .before .before in
+    rw (step-all (s .args .value) (s .fits .value) (below c)) (record { fits = omega (arith, s .fits .value .sfits) })
 
 returns : tie.Need-returns
-returns c = rw (step-all (c .before .before .args .value) (c .before .before .fits .value) (below c)) (sym (size-below (c .before .before .args .value) (below c)))
+returns c =
+    let s = c .before .before in
+    rw (step-all (s .args .value) (s .fits .value) (below c)) (sym (size-below (s .args .value) (below c)))
 
 cast-result-2 : tie.Need-cast-result-2
-cast-result-2 c = rw (toZ-ofZ (c .before .before .fits .value)) (not-negative (c .before .before .args .value) (above c), fits-natAbs tt (c .before .before .fits .value))
+cast-result-2 c =
+    let s = c .before .before in
+    rw (toZ-ofZ (s .fits .value)) (not-negative (s .args .value) (above c), fits-natAbs tt (s .fits .value))
 
 returns-2 : tie.Need-returns-2
 returns-2 c = rw (toZ-ofZ (c .before .before .fits .value))

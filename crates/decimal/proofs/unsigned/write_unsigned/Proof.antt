@@ -8,7 +8,9 @@ digit-count-requires : tie.Need-digit-count-requires
 digit-count-requires c κs = search needs
 
 returns : tie.Need-returns
-returns c = digits-short (c .before .before .before .args .value) (c .before .before .before .args .rest .now) (c .before .digit-count .ensures) (c .if1 .taken)
+returns c =
+    let s = c .before .before .before in
+    digits-short (s .args .value) (s .args .rest .now) (c .before .digit-count .ensures) (c .if1 .taken)
 
 put-digits-requires : tie.Need-put-digits-requires
 put-digits-requires c κs = search needs
@@ -17,7 +19,9 @@ same-length : tie.Need-same-length
 same-length c = search needs
 
 returns-2 : tie.Need-returns-2
-returns-2 c = digits-fit (c .before .before .before .before .before .before .before .args .value) (c .before .before .before .before .before .before .before .args .rest .now) (c .before .before .before .before .before .digit-count .ensures) (c .before .before .before .before .if1 .left) (c .before .before .put-digits .ensures)
+returns-2 c =
+    let s = c .before .before .before .before .before .before .before in
+    digits-fit (s .args .value) (s .args .rest .now) (c .before .before .before .before .before .digit-count .ensures) (c .before .before .before .before .if1 .left) (c .before .before .put-digits .ensures)
 
 pub write-unsigned-spec : {M : Type 1} → statement M
 write-unsigned-spec =

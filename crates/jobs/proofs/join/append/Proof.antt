@@ -25,8 +25,12 @@ abbrev μ-loop : tie.MeasureT-loop
 μ-loop old new set₀ last₀ chain count k₀ set last k = count - k
 
 -- the record to be checked is the next one
-next : (c : tie.After-renumber Inv-loop μ-loop) → c .renumber .result ≡ nextJob (jobsOf (c .before .before .before .before .before .before .before .before .args .old)) (jobsOf (c .before .before .before .before .before .before .before .before .args .t2)) (c .before .before .before .before .loop .k)
-next c = next-job (c .before .before .before .before .before .before .before .before .args .old) (c .before .before .before .before .before .before .before .before .args .t2) (c .before .before .before .before .loop .k) (c .before .before .before .before .before .before .last-of .result) (c .renumber .result) (c .before .before .before .before .before .before .last-of .ensures) (c .before .before .before .loop-test .taken) (c .renumber .ensures)
+next : (c : tie.After-renumber Inv-loop μ-loop)
+    → let s = c .before .before .before .before .before .before .before .before in
+    c .renumber .result ≡ nextJob (jobsOf (s .args .old)) (jobsOf (s .args .t2)) (c .before .before .before .before .loop .k)
+next c =
+    let s = c .before .before .before .before .before .before .before .before in
+    next-job (s .args .old) (s .args .t2) (c .before .before .before .before .loop .k) (c .before .before .before .before .before .before .last-of .result) (c .renumber .result) (c .before .before .before .before .before .before .last-of .ensures) (c .before .before .before .loop-test .taken) (c .renumber .ensures)
 
 cleared-requires : tie.Need-cleared-requires Inv-loop μ-loop
 cleared-requires c κs = omega (arith, length-jobs (c .args .old), records-few (jobsOf (c .args .old)) (c .pre))
@@ -38,7 +42,9 @@ add-chain : tie.Need-add-chain Inv-loop μ-loop
 add-chain c = let h = last-chain (jobsOf (c .before .before .before .args .old)) (c .before .before .before .pre) in rw (c .before .last-of .ensures) (search (needs, h))
 
 loop-holds : tie.Need-loop-holds Inv-loop μ-loop
-loop-holds c = joining-start (jobsOf (c .before .before .before .args .old)) (jobsOf (c .before .before .before .args .t2)) (c .before .before .cleared .result) (c .before .last-of .result) (c .before .before .before .pre) (c .before .before .cleared .ensures) (c .before .last-of .ensures)
+loop-holds c =
+    let s = c .before .before .before in
+    joining-start (jobsOf (s .args .old)) (jobsOf (s .args .t2)) (c .before .before .cleared .result) (c .before .last-of .result) (s .pre) (c .before .before .cleared .ensures) (c .before .last-of .ensures)
 
 returns : tie.Need-returns Inv-loop μ-loop
 returns c =

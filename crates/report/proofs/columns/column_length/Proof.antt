@@ -16,7 +16,9 @@ add-result : tie.Need-add-result
 add-result c = let h = word-digits (c .before .before .args .value) (search needs) in let e = c .before .digit-count .ensures in search (needs, h, e)
 
 returns-2 : tie.Need-returns-2
-returns-2 c = omega (arith, c .before .digit-count .ensures, later-length (c .before .before .args .k) (c .before .before .args .value) (c .if1 .left))
+returns-2 c =
+    let s = c .before .before in
+    omega (arith, c .before .digit-count .ensures, later-length (s .args .k) (s .args .value) (c .if1 .left))
 
 pub column-length-spec : {M : Type 1} → statement M
 column-length-spec = tie.close (tie.spec digit-count-requires returns add-result returns-2)

@@ -12,14 +12,18 @@ use Rattle.report.proofs.columns.write_column.Tie as tie
 
 -- what stands in the buffer after the digits
 first : (c : tie.After-write-unsigned)
-    → Wrote (c .before .before .before .before .args .out .now) (c .before .before .before .before .args .at) (columnText (c .before .before .before .before .args .k) (c .before .before .before .before .args .value))
-    (putMid (c .before .before .before .before .args .at) (length (c .before .before .before .before .args .out .now) - c .before .before .before .before .args .at) (c .before .before .before .before .args .out .now) (c .write-unsigned .last .1 .0)) (c .before .before .before .before .args .at + c .write-unsigned .result)
-first c = first-written (c .before .before .before .before .args .k) (c .before .before .before .before .args .value) (c .before .before .before .before .args .out .now) (c .before .before .before .before .args .at) (c .before .before .before .before .pre) (c .before .before .if1 .taken) (c .write-unsigned .ensures)
+    → let s = c .before .before .before .before in
+    Wrote (s .args .out .now) (s .args .at) (columnText (s .args .k) (s .args .value)) (putMid (s .args .at) (length (s .args .out .now) - s .args .at) (s .args .out .now) (c .write-unsigned .last .1 .0)) (s .args .at + c .write-unsigned .result)
+first c =
+    let s = c .before .before .before .before in
+    first-written (s .args .k) (s .args .value) (s .args .out .now) (s .args .at) (s .pre) (c .before .before .if1 .taken) (c .write-unsigned .ensures)
 
 later : (c : tie.After-write-unsigned2)
-    → Wrote (c .before .before .before .before .args .out .now) (c .before .before .before .before .args .at) (columnText (c .before .before .before .before .args .k) (c .before .before .before .before .args .value))
-    (putMid (c .before .before .before .before .args .at + 1) (length (set (c .before .before .before .before .args .out .now) (c .before .before .before .before .args .at) 44) - (c .before .before .before .before .args .at + 1)) (set (c .before .before .before .before .args .out .now) (c .before .before .before .before .args .at) 44) (c .write-unsigned2 .last .1 .0)) (c .before .before .before .before .args .at + 1 + c .write-unsigned2 .result)
-later c = later-written (c .before .before .before .before .args .k) (c .before .before .before .before .args .value) (c .before .before .before .before .args .out .now) (c .before .before .before .before .args .at) (c .before .before .before .before .pre) (c .before .before .if1 .left) (c .write-unsigned2 .ensures)
+    → let s = c .before .before .before .before in
+    Wrote (s .args .out .now) (s .args .at) (columnText (s .args .k) (s .args .value)) (putMid (s .args .at + 1) (length (set (s .args .out .now) (s .args .at) 44) - (s .args .at + 1)) (set (s .args .out .now) (s .args .at) 44) (c .write-unsigned2 .last .1 .0)) (s .args .at + 1 + c .write-unsigned2 .result)
+later c =
+    let s = c .before .before .before .before in
+    later-written (s .args .k) (s .args .value) (s .args .out .now) (s .args .at) (s .pre) (c .before .before .if1 .left) (c .write-unsigned2 .ensures)
 
 sub-write-unsigned : tie.Need-sub-write-unsigned
 sub-write-unsigned c = search needs
@@ -43,16 +47,22 @@ returns : tie.Need-returns
 returns c = (first (c .before .before) .place, first (c .before .before) .list)
 
 slice-write-out : tie.Need-slice-write-out
-slice-write-out c = omega (arith, c .before .before .pre, later-length (c .before .before .args .k) (c .before .before .args .value) (c .if1 .left))
+slice-write-out c =
+    let s = c .before .before in
+    omega (arith, s .pre, later-length (s .args .k) (s .args .value) (c .if1 .left))
 
 add-next : tie.Need-add-next
 add-next c = search needs
 
 sub-write-unsigned-2 : tie.Need-sub-write-unsigned-2
-sub-write-unsigned-2 c = omega (arith, c .before .before .pre, later-length (c .before .before .args .k) (c .before .before .args .value) (c .if1 .left), length-set (c .before .before .args .out .now) (c .before .before .args .at) 44)
+sub-write-unsigned-2 c =
+    let s = c .before .before in
+    omega (arith, s .pre, later-length (s .args .k) (s .args .value) (c .if1 .left), length-set (s .args .out .now) (s .args .at) 44)
 
 part-write-unsigned-start-2 : tie.Need-part-write-unsigned-start-2
-part-write-unsigned-start-2 c = omega (arith, c .before .before .pre, later-length (c .before .before .args .k) (c .before .before .args .value) (c .if1 .left), length-set (c .before .before .args .out .now) (c .before .before .args .at) 44)
+part-write-unsigned-start-2 c =
+    let s = c .before .before in
+    omega (arith, s .pre, later-length (s .args .k) (s .args .value) (c .if1 .left), length-set (s .args .out .now) (s .args .at) 44)
 
 part-write-unsigned-end-2 : tie.Need-part-write-unsigned-end-2
 part-write-unsigned-end-2 c = search needs

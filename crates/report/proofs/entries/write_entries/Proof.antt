@@ -14,7 +14,9 @@ abbrev μ-loop : tie.MeasureT-loop
 μ-loop numbers count out₀ at next₀ n₀ out next n = count - n
 
 loop-holds : tie.Need-loop-holds Inv-loop μ-loop
-loop-holds c = pieces-none (entries-made (c .before .before .args .numbers .now) (c .before .before .args .count)) (c .before .before .args .out .now) (c .before .before .args .at) (c .before .before .pre .1)
+loop-holds c =
+    let s = c .before .before in
+    pieces-none (entries-made (s .args .numbers .now) (s .args .count)) (s .args .out .now) (s .args .at) (s .pre .1)
 
 write-entry-requires : tie.Need-write-entry-requires Inv-loop μ-loop
 write-entry-requires c κs = (omega (arith, c .before .before .before .before .before .pre .0), pieces-room (c .before .before .loop .inv) (c .before .loop-test .taken))

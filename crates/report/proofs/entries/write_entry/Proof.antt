@@ -13,13 +13,19 @@ use Rattle.report.proofs.entries.write_entry.Statement.{statement}
 use Rattle.report.proofs.entries.write_entry.Tie as tie
 
 -- what stands in the buffer after each piece
-columns : (c : tie.After-write-columns) → Wrote (c .before .before .before .before .before .before .args .out .now) (c .before .before .before .before .before .before .args .place) ([] ++ columnsText (entryValues (c .before .before .before .before .before .before .args .numbers .now) (c .before .before .before .before .before .before .args .n))) (c .write-columns .last .1 .0) (c .write-columns .result)
+columns : (c : tie.After-write-columns)
+    → let s = c .before .before .before .before .before .before in
+    Wrote (s .args .out .now) (s .args .place) ([] ++ columnsText (entryValues (s .args .numbers .now) (s .args .n))) (c .write-columns .last .1 .0) (c .write-columns .result)
 columns c =
-    wrote-more (columnsText (entryValues (c .before .before .before .before .before .before .args .numbers .now) (c .before .before .before .before .before .before .args .n))) (wrote-none (c .before .before .before .before .before .before .args .out .now) (c .before .before .before .before .before .before .args .place) (omega (arith, c .before .before .before .before .before .before .pre .1)))
-    (rw (c .before .before .before .entry-values .ensures) at (c .write-columns .ensures))
+    let s = c .before .before .before .before .before .before in
+    wrote-more (columnsText (entryValues (s .args .numbers .now) (s .args .n))) (wrote-none (s .args .out .now) (s .args .place) (omega (arith, s .pre .1))) (rw (c .before .before .before .entry-values .ensures) at (c .write-columns .ensures))
 
-row : (c : tie.After-write-bytes) → Wrote (c .before .before .before .before .before .before .before .before .before .before .before .args .out .now) (c .before .before .before .before .before .before .before .before .before .before .before .args .place) (entryText (c .before .before .before .before .before .before .before .before .before .before .before .args .numbers .now) (c .before .before .before .before .before .before .before .before .before .before .before .args .n)) (c .write-bytes .last .1 .0) (c .write-bytes .result)
-row c = rw (← entry-pieces (c .before .before .before .before .before .before .before .before .before .before .before .args .numbers .now) (c .before .before .before .before .before .before .before .before .before .before .before .args .n) (c .before .before .before .before .before .before .before .before .before .before .before .pre .0)) (wrote-more lineEnd (columns (c .before .before .before .before .before)) (c .write-bytes .ensures))
+row : (c : tie.After-write-bytes)
+    → let s = c .before .before .before .before .before .before .before .before .before .before .before in
+    Wrote (s .args .out .now) (s .args .place) (entryText (s .args .numbers .now) (s .args .n)) (c .write-bytes .last .1 .0) (c .write-bytes .result)
+row c =
+    let s = c .before .before .before .before .before .before .before .before .before .before .before in
+    rw (← entry-pieces (s .args .numbers .now) (s .args .n) (s .pre .0)) (wrote-more lineEnd (columns (c .before .before .before .before .before)) (c .write-bytes .ensures))
 
 entry-values-requires : tie.Need-entry-values-requires
 entry-values-requires c κs = search needs
@@ -29,13 +35,16 @@ slice-aggregate-write-columns c = search needs
 
 write-columns-requires : tie.Need-write-columns-requires
 write-columns-requires c κs =
-    omega (arith, c .before .before .before .before .before .pre .1, ap (λ (l : List ℕ). length (columnsText l)) (c .before .before .entry-values .ensures), entry-length (c .before .before .before .before .before .args .numbers .now) (c .before .before .before .before .before .args .n) (c .before .before .before .before .before .pre .0))
+    let s = c .before .before .before .before .before in
+    omega (arith, s .pre .1, ap (λ (l : List ℕ). length (columnsText l)) (c .before .before .entry-values .ensures), entry-length (s .args .numbers .now) (s .args .n) (s .pre .0))
 
 slice-aggregate-write-bytes : tie.Need-slice-aggregate-write-bytes
 slice-aggregate-write-bytes c = search needs
 
 write-bytes-requires : tie.Need-write-bytes-requires
-write-bytes-requires c κs = wrote-room lineEnd (columns (c .before .before .before .before)) (omega (arith, c .before .before .before .before .before .before .before .before .before .before .pre .1, entry-length (c .before .before .before .before .before .before .before .before .before .before .args .numbers .now) (c .before .before .before .before .before .before .before .before .before .before .args .n) (c .before .before .before .before .before .before .before .before .before .before .pre .0)))
+write-bytes-requires c κs =
+    let s = c .before .before .before .before .before .before .before .before .before .before in
+    wrote-room lineEnd (columns (c .before .before .before .before)) (omega (arith, s .pre .1, entry-length (s .args .numbers .now) (s .args .n) (s .pre .0)))
 
 same-length : tie.Need-same-length
 same-length c = let h = wrote-length (row (c .before .before)) (c .before .before .before .before .before .before .before .before .before .before .before .before .before .pre .1) in search (needs, h)

@@ -33,7 +33,9 @@ number : (c : tie.After-write-column)
     → Wrote (c .before .before .before .before .before .before .before .before .before .before .before .args .out .now) 0 (([] ++ ascii "refused,") ++ columnText 0 (c .before .before .before .before .before .before .before .before .before .number .result)) (c .write-column .last .1 .1 .0) (c .write-column .result)
 number c = wrote-more (columnText 0 (c .before .before .before .before .before .before .before .before .before .number .result)) (word (c .before .before .before .before)) (c .write-column .ensures)
 
-line : (c : tie.After-write-bytes2) → Wrote (c .before .before .before .before .before .before .before .before .before .before .before .before .before .before .before .before .args .out .now) 0 (refusedText (c .before .before .before .before .before .before .before .before .before .before .before .before .before .before .before .before .args .refusal)) (c .write-bytes2 .last .1 .0) (c .write-bytes2 .result)
+line : (c : tie.After-write-bytes2)
+    → let s = c .before .before .before .before .before .before .before .before .before .before .before .before .before .before .before .before in
+    Wrote (s .args .out .now) 0 (refusedText (s .args .refusal)) (c .write-bytes2 .last .1 .0) (c .write-bytes2 .result)
 line c = rw (← refused-pieces (c .before .before .before .before .before .before .before .before .before .before .before .before .before .before .before .before .args .refusal) (c .before .before .before .before .before .before .before .before .before .before .before .before .before .before .number .result) (c .before .before .before .before .before .before .before .before .before .before .before .before .before .before .number .ensures)) (wrote-more lineEnd (number (c .before .before .before .before .before)) (c .write-bytes2 .ensures))
 
 number-requires : tie.Need-number-requires
@@ -49,7 +51,9 @@ add-if1 : tie.Need-add-if1
 add-if1 c = let h = word-digits (c .before .number .result) (search needs) in let e = c .digit-count .ensures in search (needs, h, e)
 
 returns : tie.Need-returns
-returns c = writes-short (refusedText (c .before .before .before .before .args .refusal)) (c .before .before .before .before .args .out .now) (omega (arith, length-is (c .before), c .if1 .taken))
+returns c =
+    let s = c .before .before .before .before in
+    writes-short (refusedText (s .args .refusal)) (s .args .out .now) (omega (arith, length-is (c .before), c .if1 .taken))
 
 slice-aggregate-write-bytes : tie.Need-slice-aggregate-write-bytes
 slice-aggregate-write-bytes c = search needs

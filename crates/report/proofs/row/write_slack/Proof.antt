@@ -14,9 +14,11 @@ use Rattle.report.proofs.row.write_slack.Tie as tie
 
 -- what stands in the buffer after the slack
 wrote : (c : tie.After-write-signed)
-    → Wrote (c .before .before .before .args .out .now) (c .before .before .before .args .at) (slackText (c .before .before .before .args .slack))
-    (putMid (c .before .before .before .args .at + 1) (length (set (c .before .before .before .args .out .now) (c .before .before .before .args .at) 44) - (c .before .before .before .args .at + 1)) (set (c .before .before .before .args .out .now) (c .before .before .before .args .at) 44) (c .write-signed .last .1 .0)) (c .before .before .before .args .at + 1 + c .write-signed .result)
-wrote c = rw (slack-is (c .before .before .before .args .slack)) (comma-written (signed (c .before .before .before .args .slack)) (c .before .before .before .args .out .now) (c .before .before .before .args .at) (rw (slack-is (c .before .before .before .args .slack)) at (c .before .before .before .pre)) (rw (toZ-ofZ (c .before .before .before .fits .slack)) at (c .write-signed .ensures)))
+    → let s = c .before .before .before in
+    Wrote (s .args .out .now) (s .args .at) (slackText (s .args .slack)) (putMid (s .args .at + 1) (length (set (s .args .out .now) (s .args .at) 44) - (s .args .at + 1)) (set (s .args .out .now) (s .args .at) 44) (c .write-signed .last .1 .0)) (s .args .at + 1 + c .write-signed .result)
+wrote c =
+    let s = c .before .before .before in
+    rw (slack-is (s .args .slack)) (comma-written (signed (s .args .slack)) (s .args .out .now) (s .args .at) (rw (slack-is (s .args .slack)) at (s .pre)) (rw (toZ-ofZ (s .fits .slack)) at (c .write-signed .ensures)))
 
 slice-write-out : tie.Need-slice-write-out
 slice-write-out c = omega (arith, c .before .pre, slack-length (c .before .args .slack))

@@ -19,8 +19,8 @@ room c = most-room (c .before .before .args .set) (c .most-times .result) (c .be
 
 ran : (c : tie.After-trace) → Ran (jobsOf (c .before .before .before .before .before .args .set)) (c .trace .result) (c .trace .last .1 .1 .0)
 ran c =
-    most-ran (jobsOf (c .before .before .before .before .before .args .set)) (c .before .before .before .before .before .pre) _ (most-lent (c .before .before .before .before .before .args .set) (c .before .before .before .most-times .result) (c .before .before .before .most-times .ensures)) (replicate (8 * maxJobs) 0)
-    (omega (arith, length-replicate {A = ℕ} (8 * maxJobs) 0)) (c .trace .ensures)
+    let s = c .before .before .before .before .before in
+    most-ran (jobsOf (s .args .set)) (s .pre) _ (most-lent (s .args .set) (c .before .before .before .most-times .result) (c .before .before .before .most-times .ensures)) (replicate (8 * maxJobs) 0) (omega (arith, length-replicate {A = ℕ} (8 * maxJobs) 0)) (c .trace .ensures)
 
 most-times-requires : tie.Need-most-times-requires
 most-times-requires c κs = omega (arith, length-jobs (c .before .args .set), accepted (jobsOf (c .before .args .set)) (c .before .pre) .few)

@@ -13,7 +13,8 @@ use Rattle.table.proofs.reading.read.Tie as tie
 
 -- the records stand behind the header
 behind : (c : tie.After-known-told)
-    → (c .before .length .given .0 .0 ≤ length (c .before .before .before .before .before .before .args .text .now)) × (recordsFrom [] (linesOf (drop (c .before .length .given .0 .0) (c .before .before .before .before .before .before .args .text .now))) ≡ readingOf (c .before .before .before .before .before .before .args .text .now))
+    → let s = c .before .before .before .before .before .before in
+    (c .before .length .given .0 .0 ≤ length (s .args .text .now)) × (recordsFrom [] (linesOf (drop (c .before .length .given .0 .0) (s .args .text .now))) ≡ readingOf (s .args .text .now))
 behind c = under-header (c .before .before .before .before .before .before .args .text .now) (c .before .before .before .before .if1 .left) _ (sym (c .before .before .before .read-header .ensures) ∙ c .before .length .given .1)
 
 refused-requires : tie.Need-refused-requires
