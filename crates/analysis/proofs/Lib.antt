@@ -1,6 +1,3 @@
-pub mod Gathered
-pub mod Lent
-pub mod Rounding
 pub mod Meeting
 pub mod Differences
 pub mod Slacks

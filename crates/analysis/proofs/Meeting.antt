@@ -1,7 +1,7 @@
--- Deadlines met job by job, with bounds as they are padded in an answer. Assumes nothing.
+-- Deadlines met job by job, and the verdict by bounds as they are padded in an answer. Assumes nothing.
 use Prim.Native.Nat.{ℕ, _+_, _≤_, _<_}
-use mathlib.Core.Path.{_≡_, sym, _∙_}
-use mathlib.Core.Bool.{Bool, true, false}
+use mathlib.Core.Path.{_≡_, refl, sym, ap, _∙_}
+use mathlib.Core.Bool.{Bool, true, false, cond}
 use mathlib.Core.List.{List}
 use native.Mathlib.Omega.{arith}
 use lib.Dec.{leb}
@@ -12,14 +12,25 @@ use Rattle.laws.proofs.Every.{every-next, every-not, every-ext}
 use Rattle.laws.proofs.Lists.{getD-padded}
 use Rattle.jobs.specs.declared.job.Job.{Job}
 use Rattle.jobs.specs.declared.set.JobSet.{JobSet}
+use Rattle.jobs.specs.declared.refusal.Check.{Check}
+use Rattle.jobs.specs.declared.refusal.Check.the-variants.{Passed, Refused}
 use Rattle.jobs.specs.Limits.{maxJobs}
+use Rattle.jobs.specs.Refusals.{onPass}
+use Rattle.jobs.specs.Checks.{checkOf}
 use Rattle.jobs.specs.Jobs.{jobsOf, jobAt}
 use Rattle.jobs.proofs.Sets.{length-jobs}
 use Rattle.theory.specs.Bounds.{meets}
+use Rattle.completion.specs.Answers.{eachJob}
+use Rattle.analysis.specs.declared.answer.Verdict.{Verdict}
+use Rattle.analysis.specs.Answers.{verdictBy, verdictOf}
 
 -- the bound of the job at a place is at or before its deadline
 abbrev pub metAt : List Job → List ℕ → ℕ → Bool
 metAt js bounds i = leb (numberAt bounds i) (jobAt js i .deadline)
+
+-- the verdict that a test says
+abbrev pub verdictIs : Bool → Verdict
+verdictIs met = cond met Verdict.Yes Verdict.No
 
 -- the test of each job of a set
 module _ (set : JobSet) (bounds : List ℕ) where
@@ -35,6 +46,20 @@ module _ (set : JobSet) (bounds : List ℕ) where
   unfolding meets
   meets-not i l late = every-not _ (length (jobsOf set)) i (omega (arith, length-jobs set)) (lt-leb _ _ late)
 
-  pub meets-padded : (padding : List ℕ) (met : Bool) → padding ≡ padded maxJobs 0 bounds → met ≡ meets (jobsOf set) padding → met ≡ meets (jobsOf set) bounds
+  meets-padded : meets (jobsOf set) (padded maxJobs 0 bounds) ≡ meets (jobsOf set) bounds
   unfolding meets
-  meets-padded padding met e q = q ∙ rw e (every-ext _ _ (length (jobsOf set)) (λ i l. rw (getD-padded maxJobs 0 bounds i)))
+  meets-padded = every-ext _ _ (length (jobsOf set)) (λ i l. rw (getD-padded maxJobs 0 bounds i))
+
+  -- the verdict by the bounds in an answer, which are none where the set is refused
+  on-check : (k : Check) → onPass k Verdict.Refused (verdictIs (meets (jobsOf set) (eachJob 0 k bounds))) ≡ onPass k Verdict.Refused (verdictIs (meets (jobsOf set) bounds))
+  on-check Passed = ap verdictIs meets-padded
+  on-check (Refused refusal) = refl
+
+  pub verdict-is : (check : Check) (each : List ℕ) (verdict : Verdict) → check ≡ checkOf (jobsOf set) → each ≡ eachJob 0 (checkOf (jobsOf set)) bounds
+      → verdict ≡ onPass check Verdict.Refused (verdictIs (meets (jobsOf set) each)) → verdict ≡ onPass (checkOf (jobsOf set)) Verdict.Refused (verdictIs (meets (jobsOf set) bounds))
+  verdict-is check each verdict c b e = e ∙ rw (c, b) (on-check (checkOf (jobsOf set)))
+
+-- the verdict on an accepted set
+pub verdict-passed : (set : JobSet) (algorithm : ℕ) → checkOf (jobsOf set) ≡ Passed → verdictOf set algorithm ≡ verdictBy (jobsOf set) algorithm
+unfolding verdictOf
+verdict-passed set algorithm passed = rw passed

@@ -1,34 +1,16 @@
--- The answers, whose unused places are 0. Document 01, "Bounds", the refusals of a set and of admission, and number 10. Assumes nothing.
-use Rattle.laws.specs.Words.{ℕ, cond, List, [], eqb, pos, padded}
-use Rattle.jobs.specs.declared.{job.Job.Job, set.JobSet.JobSet, refusal.Refusal.Refusal, refusal.Check.Check}
-use Rattle.jobs.specs.{Limits.maxJobs, Refusals.onPass, Jobs.jobsOf, Jobs.setOf, Checks.checkOf, Joins.withChain, Joins.joinCheck}
+-- What follows from the bounds; unused places are 0. Document 01, "Bounds", the refusals of a set and of admission, and number 10. Assumes nothing.
+use Rattle.laws.specs.Words.{ℕ, cond, List, eqb, pos}
+use Rattle.jobs.specs.declared.{job.Job.Job, set.JobSet.JobSet, refusal.Refusal.Refusal}
+use Rattle.jobs.specs.{Refusals.onPass, Jobs.jobsOf, Jobs.setOf, Checks.checkOf, Joins.withChain, Joins.joinCheck}
 use Rattle.theory.specs.{Table.tableOf, Bounds.ert, Bounds.cja, Bounds.itr, Bounds.slacks, Bounds.meets}
-use Rattle.analysis.specs.declared.{answer.Bounds.Bounds, answer.Itr.Itr, answer.Slacks.Slacks, answer.Figures.Figures, answer.Verdict.Verdict, answer.Admission.Admission}
-
--- A figure of each job in an answer; none on a refusal.
-abbrev pub eachJob : {A : Type 0} → A → Check → List A → List A
-eachJob unused check each = padded maxJobs unused (onPass check (λ refusal. []) each)
-
--- The ERT bounds of a set.
-unfoldable pub ertOf : JobSet → Bounds
-ertOf set = let js = jobsOf set in record { check = checkOf js; bounds = eachJob 0 (checkOf js) (ert (tableOf js)) }
-
--- The CJA bounds of a set.
-unfoldable pub cjaOf : JobSet → Bounds
-cjaOf set = let js = jobsOf set in record { check = checkOf js; bounds = eachJob 0 (checkOf js) (cja (tableOf js)) }
-
--- The ITR bounds of a set and the number of rounds; none on a refusal.
-unfoldable pub itrOf : JobSet → Itr
-itrOf set =
-    let js = jobsOf set in
-    let answer = itr (tableOf js) in
-    record { check = checkOf js; bounds = eachJob 0 (checkOf js) (answer .bounds); rounds = onPass (checkOf js) (λ refusal. 0) (answer .rounds) }
+use Rattle.completion.specs.Answers.{eachJob, ertOf, cjaOf, itrOf}
+use Rattle.analysis.specs.declared.{answer.Slacks.Slacks, answer.Figures.Figures, answer.Verdict.Verdict, answer.Admission.Admission}
 
 -- Each job's deadline less its ITR bound.
 unfoldable pub slacksOf : JobSet → Slacks
 slacksOf set = let js = jobsOf set in record { check = checkOf js; slacks = eachJob (pos 0) (checkOf js) (slacks js) }
 
--- The figures of the four answers above in one.
+-- The three bounds, the rounds and the slacks in one.
 unfoldable pub figuresOf : JobSet → Figures
 figuresOf set =
     record {

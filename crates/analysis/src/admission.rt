@@ -3,7 +3,7 @@ ghost use Rattle.laws.specs.Words.{_≡_};
 ghost use Rattle.analysis.specs.Answers.{admissionOf};
 use crate::answer::Admission;
 use crate::answer::Verdict;
-use crate::verdict::accepted_verdict;
+use crate::verdict::verdict;
 use jobs::join::join;
 use jobs::refusal::Check;
 use jobs::set::JobSet;
@@ -40,5 +40,5 @@ pub fn admit(old: JobSet, new: JobSet, algorithm: u8) -> Admission
             set: old,
         };
     }
-    admitted(accepted_verdict(joined.set, algorithm), old, joined.set)
+    admitted(verdict(joined.set, algorithm), old, joined.set)
 }

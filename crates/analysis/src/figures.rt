@@ -2,11 +2,10 @@
 ghost use Rattle.laws.specs.Words.{_≡_};
 ghost use Rattle.analysis.specs.Answers.{figuresOf};
 use crate::answer::Figures;
-use crate::cja::accepted_cja;
-use crate::ert::accepted_ert;
-use crate::itr::accepted_itr;
 use crate::slack::slacks_by;
-use jobs::check::check;
+use completion::cja::cja;
+use completion::ert::ert;
+use completion::itr::itr;
 use jobs::refusal::Check;
 use jobs::set::JobSet;
 
@@ -14,7 +13,9 @@ use jobs::set::JobSet;
 pub fn figures(set: JobSet) -> Figures
     ensures { λ r. ⌜ r ≡ figuresOf set ⌝ }
 {
-    if let Check::Refused(refusal) = check(set) {
+    let answer = itr(set);
+    let check = answer.check;
+    if let Check::Refused(refusal) = check {
         return Figures {
             check: Check::Refused(refusal),
             ert: [0u64; JobSet::MAX_JOBS],
@@ -24,14 +25,17 @@ pub fn figures(set: JobSet) -> Figures
             slacks: [0i64; JobSet::MAX_JOBS],
         };
     }
-    let answer = accepted_itr(set);
-    let itr = answer.bounds;
-    let slacks = slacks_by(set, itr);
+    let by_itr = answer.bounds;
+    let slacks = slacks_by(set, by_itr);
+    let ert_answer = ert(set);
+    let by_ert = ert_answer.bounds;
+    let cja_answer = cja(set);
+    let by_cja = cja_answer.bounds;
     Figures {
         check: Check::Passed,
-        ert: accepted_ert(set),
-        cja: accepted_cja(set),
-        itr,
+        ert: by_ert,
+        cja: by_cja,
+        itr: by_itr,
         rounds: answer.rounds,
         slacks,
     }

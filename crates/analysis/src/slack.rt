@@ -5,8 +5,7 @@ ghost use Rattle.theory.specs.Table.{tableOf};
 ghost use Rattle.theory.specs.Bounds.{boundLimit, itr as Theory·itr, slack as Theory·slack, slacks as Theory·slacks};
 ghost use Rattle.analysis.specs.Answers.{slacksOf};
 use crate::answer::Slacks;
-use crate::itr::accepted_itr;
-use jobs::check::check;
+use completion::itr::itr;
 use jobs::refusal::Check;
 use jobs::set::JobSet;
 
@@ -41,14 +40,15 @@ pub(crate) fn slacks_by(set: JobSet, bounds: [u64; JobSet::MAX_JOBS]) -> [i64; J
 pub fn slacks(set: JobSet) -> Slacks
     ensures { λ r. ⌜ r ≡ slacksOf set ⌝ }
 {
-    if let Check::Refused(refusal) = check(set) {
+    let answer = itr(set);
+    let check = answer.check;
+    if let Check::Refused(refusal) = check {
         return Slacks {
             check: Check::Refused(refusal),
             slacks: [0i64; JobSet::MAX_JOBS],
         };
     }
-    let itr = accepted_itr(set);
-    let bounds = itr.bounds;
+    let bounds = answer.bounds;
     Slacks {
         check: Check::Passed,
         slacks: slacks_by(set, bounds),

@@ -1,12 +1,12 @@
 // The verdict: whether each job's bound is at or before its deadline.
 ghost use Rattle.laws.specs.Words.{_≡_, cond, _≤_};
-ghost use Rattle.jobs.specs.{Limits.maxJobs, Jobs.jobsOf, Checks.checkOf};
+ghost use Rattle.jobs.specs.{Limits.maxJobs, Refusals.onPass, Jobs.jobsOf, Checks.checkOf};
 ghost use Rattle.theory.specs.Bounds.{meets as Theory·meets};
-ghost use Rattle.analysis.specs.Answers.{verdictBy, verdictOf};
+ghost use Rattle.analysis.specs.Answers.{verdictOf};
 use crate::answer::Verdict;
-use crate::cja::accepted_cja;
-use crate::ert::accepted_ert;
-use crate::itr::accepted_itr;
+use completion::cja::cja;
+use completion::ert::ert;
+use completion::itr::itr;
 use jobs::check::check;
 use jobs::refusal::Check;
 use jobs::refusal::Refusal;
@@ -29,41 +29,44 @@ fn meets(set: JobSet, bounds: [u64; JobSet::MAX_JOBS]) -> bool
     true
 }
 
-// Yes where all deadlines are met.
-fn verdict_is(met: bool) -> Verdict
-    ensures { λ r. ⌜ r ≡ cond met Verdict.Yes Verdict.No ⌝ }
+// The verdict by the bounds of a set, or the refusal of the set: yes where all deadlines are met.
+fn verdict_by(set: JobSet, check: Check, bounds: [u64; JobSet::MAX_JOBS]) -> Verdict
+    requires { ⌜ check ≡ checkOf (jobsOf set) ⌝ }
+    ensures { λ r. ⌜ r ≡ onPass check Verdict.Refused (cond (Theory·meets (jobsOf set) bounds) Verdict.Yes Verdict.No) ⌝ }
 {
-    if met {
+    if let Check::Refused(refusal) = check {
+        return Verdict::Refused(refusal);
+    }
+    if meets(set, bounds) {
         return Verdict::Yes;
     }
     Verdict::No
 }
 
-// The verdict on an accepted set, by 1 ERT, 2 CJA or 3 ITR.
-pub(crate) fn accepted_verdict(set: JobSet, algorithm: u8) -> Verdict
-    requires { ⌜ checkOf (jobsOf set) ≡ Check.Passed ⌝ }
-    ensures { λ r. ⌜ r ≡ verdictBy (jobsOf set) algorithm ⌝ }
-{
-    if algorithm == 1 {
-        return verdict_is(meets(set, accepted_ert(set)));
-    }
-    if algorithm == 2 {
-        return verdict_is(meets(set, accepted_cja(set)));
-    }
-    if algorithm == 3 {
-        let itr = accepted_itr(set);
-        let bounds = itr.bounds;
-        return verdict_is(meets(set, bounds));
-    }
-    Verdict::Refused(Refusal::UnknownAlgorithm)
-}
-
-// The verdict on a set: its own refusals first, then 10 for an algorithm that is not 1, 2 or 3.
+// The verdict on a set by 1 ERT, 2 CJA or 3 ITR: its own refusals first, then 10 for another algorithm.
 pub fn verdict(set: JobSet, algorithm: u8) -> Verdict
     ensures { λ r. ⌜ r ≡ verdictOf set algorithm ⌝ }
 {
+    if algorithm == 1 {
+        let answer = ert(set);
+        let passed = answer.check;
+        let bounds = answer.bounds;
+        return verdict_by(set, passed, bounds);
+    }
+    if algorithm == 2 {
+        let answer = cja(set);
+        let passed = answer.check;
+        let bounds = answer.bounds;
+        return verdict_by(set, passed, bounds);
+    }
+    if algorithm == 3 {
+        let answer = itr(set);
+        let passed = answer.check;
+        let bounds = answer.bounds;
+        return verdict_by(set, passed, bounds);
+    }
     if let Check::Refused(refusal) = check(set) {
         return Verdict::Refused(refusal);
     }
-    accepted_verdict(set, algorithm)
+    Verdict::Refused(Refusal::UnknownAlgorithm)
 }

@@ -17,7 +17,8 @@ use Rattle.jobs.specs.Jobs.{jobsOf}
 use Rattle.jobs.specs.Checks.{checkOf}
 use Rattle.jobs.proofs.Sets.{length-jobs, job-at}
 use Rattle.analysis.specs.declared.answer.Figures.{Figures}
-use Rattle.analysis.specs.Answers.{ertOf, cjaOf, itrOf, slacksOf, figuresOf}
+use Rattle.completion.specs.Answers.{ertOf, cjaOf, itrOf}
+use Rattle.analysis.specs.Answers.{slacksOf, figuresOf}
 use Rattle.theory.specs.Table.{tableOf}
 use Rattle.theory.specs.Bounds.{ert, cja, itr, slacks}
 use Rattle.report.specs.declared.written.Written.the-variants.{Bytes, Refused}

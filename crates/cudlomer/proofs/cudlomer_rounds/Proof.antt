@@ -15,8 +15,8 @@ use Rattle.jobs.proofs.Accepted.{accepted}
 use Rattle.theory.specs.Table.{tableOf}
 use Rattle.theory.specs.Bounds.{itr}
 use Rattle.theory.proofs.Claims.{claims}
-use Rattle.analysis.specs.declared.answer.Itr.{Itr}
-use Rattle.analysis.specs.Answers.{itrOf}
+use Rattle.completion.specs.declared.answer.Itr.{Itr}
+use Rattle.completion.specs.Answers.{itrOf}
 use Rattle.cudlomer.specs.Codes.{roundsOfTable}
 use Rattle.cudlomer.proofs.cudlomer_rounds.Statement.{statement}
 use Rattle.cudlomer.proofs.cudlomer_rounds.Tie as tie

@@ -9,6 +9,7 @@ use Rattle.jobs.specs.declared.set.JobSet.{JobSet}
 use Rattle.analysis.specs.declared.answer.Verdict.{Verdict}
 use Rattle.analysis.specs.declared.answer.Admission.{Admission}
 use Rattle.analysis.specs.Answers.{admissionOf, verdictBy}
+use Rattle.analysis.proofs.Meeting.{verdict-passed}
 use Rattle.analysis.proofs.Joining.{joined-check, joined-passes, joined-set, joined-jobs, joined-accepted}
 use Rattle.analysis.proofs.admission.admit.Statement.{statement}
 use Rattle.analysis.proofs.admission.admit.Tie as tie
@@ -33,10 +34,8 @@ returns c =
 enum-told : tie.Need-enum-told
 enum-told c = search needs
 
-accepted-verdict-requires : tie.Need-accepted-verdict-requires
-accepted-verdict-requires c κs =
-    let a = c .before .before .before .args in
-    joined-accepted (a .old) (a .new) (c .before .before .join .result) (c .before .before .join .ensures) (c .enum-told .given .1)
+verdict-requires : tie.Need-verdict-requires
+verdict-requires c κs = search needs
 
 admitted-requires : tie.Need-admitted-requires
 admitted-requires c κs = search needs
@@ -47,11 +46,11 @@ returns-2 c =
     let a = c .before .before .before .before .before .args in
     let j = c .before .before .before .before .join in
     let p = c .before .before .enum-told .given .1 in
-    let e : c .admitted .result ≡ admitted (c .before .accepted-verdict .result) (a .old) (j .result .set) = c .admitted .ensures in
+    let e : c .admitted .result ≡ admitted (c .before .verdict .result) (a .old) (j .result .set) = c .admitted .ensures in
     rw (joined-passes (a .old) (a .new) (j .result) (j .ensures) p)
     (e
-    ∙ ap (λ (s : JobSet). admitted (c .before .accepted-verdict .result) (a .old) s) (joined-set (a .old) (a .new) (j .result) (j .ensures) p)
-    ∙ ap (λ (v : Verdict). admitted v (a .old) (setOf (withChain (jobsOf (a .old)) (jobsOf (a .new))))) (c .before .accepted-verdict .ensures ∙ ap (λ (js : List Job). verdictBy js (a .algorithm)) (joined-jobs (a .old) (a .new) (j .result) (j .ensures) p)))
+    ∙ ap (λ (s : JobSet). admitted (c .before .verdict .result) (a .old) s) (joined-set (a .old) (a .new) (j .result) (j .ensures) p)
+    ∙ ap (λ (v : Verdict). admitted v (a .old) (setOf (withChain (jobsOf (a .old)) (jobsOf (a .new))))) (c .before .verdict .ensures ∙ verdict-passed _ _ (joined-accepted (a .old) (a .new) (j .result) (j .ensures) p) ∙ ap (λ (js : List Job). verdictBy js (a .algorithm)) (joined-jobs (a .old) (a .new) (j .result) (j .ensures) p)))
 
 pub admit-spec : {M : Type 1} → statement M
 admit-spec =
@@ -61,6 +60,6 @@ admit-spec =
     enum-known-check
     returns
     enum-told
-    accepted-verdict-requires
+    verdict-requires
     admitted-requires
     returns-2)

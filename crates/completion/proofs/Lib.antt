@@ -1,0 +1,4 @@
+pub mod Gathered
+pub mod Lent
+pub mod Rounding
+pub mod Passing
