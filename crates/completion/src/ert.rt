@@ -1,7 +1,7 @@
 // The ERT bounds.
 ghost use Rattle.laws.specs.Words.{_≡_, padded};
-ghost use Rattle.jobs.specs.{Limits.maxJobs, Jobs.jobsOf, Checks.checkOf};
-ghost use Rattle.theory.specs.{Table.tableOf, Bounds.ert as Theory·ert};
+ghost use Rattle.jobs.specs.Limits.{maxJobs};
+ghost use Rattle.theory.specs.Bounds.{ert as Theory·ert};
 ghost use Rattle.completion.specs.Answers.{ertOf};
 ghost use Rattle.theory.proofs.{Columns.lent, Columns.Fit, Endings.Ended};
 use crate::answer::Bounds;
@@ -49,16 +49,6 @@ fn by_rule<'a>(count: usize, columns: &'a Columns) -> [u64; JobSet::MAX_JOBS]
     bounds
 }
 
-// The ERT bounds of an accepted set.
-pub(crate) fn accepted_ert(set: JobSet) -> [u64; JobSet::MAX_JOBS]
-    requires { ⌜ checkOf (jobsOf set) ≡ Check.Passed ⌝ }
-    ensures { λ r. ⌜ r ≡ padded maxJobs 0 (Theory·ert (tableOf (jobsOf set))) ⌝ }
-{
-    let count = set.count;
-    let columns = columns_of(set);
-    by_rule(count, &columns)
-}
-
 // The ERT bounds of all jobs.
 pub fn ert(set: JobSet) -> Bounds
     ensures { λ r. ⌜ r ≡ ertOf set ⌝ }
@@ -69,8 +59,9 @@ pub fn ert(set: JobSet) -> Bounds
             bounds: [0u64; JobSet::MAX_JOBS],
         };
     }
+    let columns = columns_of(set);
     Bounds {
         check: Check::Passed,
-        bounds: accepted_ert(set),
+        bounds: by_rule(set.count, &columns),
     }
 }

@@ -1,7 +1,7 @@
 // The ITR bounds, and the number of rounds that they take.
 ghost use Rattle.laws.specs.Words.{_≡_, _≤_, sameUpTo, padded};
-ghost use Rattle.jobs.specs.{Limits.maxJobs, Jobs.jobsOf, Checks.checkOf};
-ghost use Rattle.theory.specs.{Table.tableOf, Bounds.itrStart, Bounds.itr as Theory·itr};
+ghost use Rattle.jobs.specs.Limits.{maxJobs};
+ghost use Rattle.theory.specs.Bounds.{itrStart, itr as Theory·itr};
 ghost use Rattle.completion.specs.Answers.{itrOf};
 ghost use Rattle.theory.proofs.{Columns.lent, Columns.Fit, Endings.Ended};
 use crate::answer::Itr;
@@ -78,16 +78,6 @@ fn settle<'a>(count: usize, columns: &'a Columns) -> Itr
     }
 }
 
-// The ITR answer of an accepted set.
-pub(crate) fn accepted_itr(set: JobSet) -> Itr
-    requires { ⌜ checkOf (jobsOf set) ≡ Check.Passed ⌝ }
-    ensures { λ r. let answer = Theory·itr (tableOf (jobsOf set)) in ⌜ r ≡ record { check = Check.Passed; bounds = padded maxJobs 0 (answer .bounds); rounds = answer .rounds } ⌝ }
-{
-    let count = set.count;
-    let columns = columns_of(set);
-    settle(count, &columns)
-}
-
 // The ITR bounds of all jobs, and the number of rounds.
 pub fn itr(set: JobSet) -> Itr
     ensures { λ r. ⌜ r ≡ itrOf set ⌝ }
@@ -99,5 +89,6 @@ pub fn itr(set: JobSet) -> Itr
             rounds: 0,
         };
     }
-    accepted_itr(set)
+    let columns = columns_of(set);
+    settle(set.count, &columns)
 }
