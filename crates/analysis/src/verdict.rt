@@ -1,7 +1,7 @@
 // The verdict: whether each job's bound is at or before its deadline.
-ghost use Rattle.laws.specs.Words.{_≡_, cond, _≤_};
-ghost use Rattle.jobs.specs.{Limits.maxJobs, Refusals.onPass, Jobs.jobsOf, Checks.checkOf};
-ghost use Rattle.theory.specs.Bounds.{meets as Theory·meets};
+ghost use Rattle.laws.specs.Words.{_≡_, cond};
+ghost use Rattle.jobs.specs.{Refusals.onPass, Jobs.jobsOf, Checks.checkOf};
+ghost use Rattle.theory.specs.Bounds.{meets};
 ghost use Rattle.analysis.specs.Answers.{verdictOf};
 use crate::answer::Verdict;
 use completion::cja::cja;
@@ -12,35 +12,24 @@ use jobs::refusal::Check;
 use jobs::refusal::Refusal;
 use jobs::set::JobSet;
 
-// Whether each job of a set has its bound at or before its deadline.
-fn meets(set: JobSet, bounds: [u64; JobSet::MAX_JOBS]) -> bool
-    requires { ⌜ set .count ≤ maxJobs ⌝ }
-    ensures { λ r. ⌜ r ≡ Theory·meets (jobsOf set) bounds ⌝ }
+// The verdict by the bounds of a set, or the refusal of the set: yes where each job has its bound at or before its deadline.
+fn verdict_by(set: JobSet, check: Check, bounds: [u64; JobSet::MAX_JOBS]) -> Verdict
+    requires { ⌜ check ≡ checkOf (jobsOf set) ⌝ }
+    ensures { λ r. ⌜ r ≡ onPass check Verdict.Refused (cond (meets (jobsOf set) bounds) Verdict.Yes Verdict.No) ⌝ }
 {
+    if let Check::Refused(refusal) = check {
+        return Verdict::Refused(refusal);
+    }
     let count = set.count;
     let mut i: usize = 0;
     while i < count {
         let job = set.jobs[i];
         if job.deadline < bounds[i] {
-            return false;
+            return Verdict::No;
         }
         i += 1;
     }
-    true
-}
-
-// The verdict by the bounds of a set, or the refusal of the set: yes where all deadlines are met.
-fn verdict_by(set: JobSet, check: Check, bounds: [u64; JobSet::MAX_JOBS]) -> Verdict
-    requires { ⌜ check ≡ checkOf (jobsOf set) ⌝ }
-    ensures { λ r. ⌜ r ≡ onPass check Verdict.Refused (cond (Theory·meets (jobsOf set) bounds) Verdict.Yes Verdict.No) ⌝ }
-{
-    if let Check::Refused(refusal) = check {
-        return Verdict::Refused(refusal);
-    }
-    if meets(set, bounds) {
-        return Verdict::Yes;
-    }
-    Verdict::No
+    Verdict::Yes
 }
 
 // The verdict on a set by 1 ERT, 2 CJA or 3 ITR: its own refusals first, then 10 for another algorithm.
