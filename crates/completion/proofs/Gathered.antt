@@ -17,7 +17,7 @@ use Rattle.theory.proofs.Given.{effectiveEarliest, given}
 use Rattle.theory.proofs.WellFormed.{Ordered, chain-le}
 use Rattle.theory.proofs.Agreement.{Agree}
 use Rattle.theory.proofs.Predecessors.{notBefore, release-by}
-use Rattle.theory.proofs.Columns.{columnCount, figure, lent, column}
+use Rattle.theory.proofs.Columns.{columnCount, figure, put, lent, column}
 use Rattle.theory.proofs.Endings.{Ended, Heads, heads-none, heads-next, ends-same}
 use Rattle.theory.proofs.Prior.{prior, prior-none, prior-next}
 use Rattle.theory.proofs.Unread.{bare}
@@ -38,14 +38,11 @@ pub record Gathered (js : List Job) (i last ready first : ℕ) (columns : List (
   pub last-is : last ≡ prior (tableOf js .chain) i
   pub ready-is : ready ≡ prior (readyAfter js) i
 
--- columns of nothing, and with a figure stored at a place of one
+-- columns of nothing
 abbrev pub noColumns : List (List ℕ)
 noColumns = replicate columnCount (replicate maxJobs 0)
 
-abbrev put : ℕ → ℕ → ℕ → List (List ℕ) → List (List ℕ)
-put k i x columns = set columns k (set (getD columns k []) i x)
-
--- with the figures of one job stored at a place
+-- columns with the figures of one job stored at a place
 abbrev pub stored : ℕ → Job → ℕ → ℕ → ℕ → ℕ → List (List ℕ) → List (List ℕ)
 stored i job urgency earliest latest first columns =
     put 5 first (i + 1) (put 4 i latest (put 3 i earliest (put 2 i (job .most) (put 1 i urgency (put 0 i (job .chain) columns)))))

@@ -2,7 +2,7 @@
 use Prim.Native.Nat.{ℕ, zero, suc, _+_, _-_, _<_}
 use mathlib.Core.Path.{_≡_, refl, sym, ap, _∙_}
 use mathlib.Core.Bool.{Bool, true, false, cond}
-use mathlib.Core.List.{List, []}
+use mathlib.Core.List.{List}
 use mathlib.Core.Logic.{_≢_}
 use native.Mathlib.Omega.{arith}
 use lib.ListN.{length, getD, set}
@@ -11,7 +11,7 @@ use borrow.Author.Tests.{lt-leb}
 use Rattle.laws.specs.Words.{numberAt}
 use Rattle.theory.specs.Table.{Table, joined}
 use Rattle.theory.specs.Runs.{complete, predecessorComplete, ready}
-use Rattle.theory.proofs.Columns.{seen, Alike}
+use Rattle.theory.proofs.Columns.{Alike}
 use Rattle.theory.proofs.Legal.{predecessor-next, predecessor-none}
 use Rattle.machine.specs.declared.state.State.{State}
 use Rattle.machine.specs.Ticks.{readyIn}
@@ -45,22 +45,6 @@ module _ (t : Table) (times : List ℕ) where
       by-joined : (b : Bool) → cond b (complete times work v) true ≡ true → cond b (complete times work' v) true ≡ true
       by-joined true q = h v q
       by-joined false q = refl
-
--- ---- the urgencies and, for predecessors, the releases are not read
-pub predecessor-seen : (chain p r times : List ℕ) (work : ℕ → ℕ) (u : ℕ) → predecessorComplete (seen chain [] []) times work u ≡ predecessorComplete (seen chain p r) times work u
-unfolding predecessorComplete joined
-predecessor-seen chain p r times work zero = refl
-predecessor-seen chain p r times work (suc v) = refl
-
-pub predecessor-bare : (chain p r times : List ℕ) (work : ℕ → ℕ) (u : ℕ) → predecessorComplete (seen chain [] r) times work u ≡ predecessorComplete (seen chain p r) times work u
-unfolding predecessorComplete joined
-predecessor-bare chain p r times work zero = refl
-predecessor-bare chain p r times work (suc v) = refl
-
-pub ready-seen : (chain p r times : List ℕ) (s : State) (u : ℕ) → readyIn (seen chain [] r) times s u ≡ readyIn (seen chain p r) times s u
-unfolding ready predecessorComplete joined
-ready-seen chain p r times s zero = refl
-ready-seen chain p r times s (suc v) = refl
 
 -- ---- tables that agree
 module _ {a b : Table} {n : ℕ} (same : Alike a b n) (times : List ℕ) where

@@ -30,7 +30,6 @@ use Rattle.theory.proofs.Columns.{seen}
 use Rattle.theory.proofs.NextRelease.{next-le}
 use Rattle.theory.proofs.Releases.{earliest-latest}
 use Rattle.theory.proofs.AcceptedSets.{accepted-latest}
-use Rattle.machine.specs.declared.columns.Columns.{Columns}
 use Rattle.machine.specs.declared.pick.Best.{Best}
 use Rattle.machine.specs.declared.run.Completed.{Completed}
 use Rattle.machine.specs.Ticks.{lastTime, allComplete, machineCheck, bestUpTo, pick, moved}
@@ -233,13 +232,13 @@ unfolding runOf
 run-refused js times r e = rw e
 
 -- ---- a turn of the loop, after the scan over the set's columns
-pub record Turn (set : JobSet) (columns : Columns) (times work : List ℕ) (left time : ℕ) (best : Best) : Type 0 where
+pub record Turn (set : JobSet) (columns : List (List ℕ)) (times work : List ℕ) (left time : ℕ) (best : Best) : Type 0 where
   pub prepared : Prepared set columns times
   pub reached : Reached (jobsOf set) times work left time
   pub more : 0 < left
-  pub scanned : best ≡ bestUpTo (seen (columns .chain) (columns .urgency) (columns .release)) times (stateOf time work) (set .count)
+  pub scanned : best ≡ bestUpTo (seen columns) times (stateOf time work) (set .count)
 
-module _ {set : JobSet} {columns : Columns} {times work : List ℕ} {left time : ℕ} {best : Best} (turn : Turn set columns times work left time best) where
+module _ {set : JobSet} {columns : List (List ℕ)} {times work : List ℕ} {left time : ℕ} {best : Best} (turn : Turn set columns times work left time best) where
   abbrev js : List Job
   js = jobsOf set
 
@@ -271,12 +270,12 @@ module _ {set : JobSet} {columns : Columns} {times work : List ℕ} {left time :
     turn-entry = reached-entry js times passed (turn .reached) ∙ found
 
   -- the time at which the machine is looked at again
-  module _ (later : ℕ) (e : later ≡ nextTime (best .found) (λ i. getD (columns .release) i 0) time (set .count)) where
+  module _ (later : ℕ) (e : later ≡ nextTime (best .found) (seen columns .earliest) time (set .count)) where
     pub turn-later : time < later
-    turn-later = next-later (λ i. getD (columns .release) i 0) time (set .count) (best .found) later turn-early e
+    turn-later = next-later (seen columns .earliest) time (set .count) (best .found) later turn-early e
 
     pub turn-ran : best .found ≡ true → later ≡ time + 1
-    turn-ran f = time-ran (λ i. getD (columns .release) i 0) time (set .count) (best .found) later f e
+    turn-ran f = time-ran (seen columns .earliest) time (set .count) (best .found) later f e
 
     module _ (f : best .found ≡ false) where
       none-picked : pick (tableOf js) times (stateOf time work) ≡ idle
@@ -287,9 +286,9 @@ module _ {set : JobSet} {columns : Columns} {times work : List ℕ} {left time :
           let shown = turn .prepared .1 .release u (omega (arith, length-jobs set)) in
           omega (
             arith,
-            time-idle (λ i. getD (columns .release) i 0) time (set .count) (best .found) later f e,
+            time-idle (seen columns .earliest) time (set .count) (best .found) later f e,
             shown,
-            next-le lastTime (λ i. getD (columns .release) i 0) time (set .count) u (omega (arith, length-jobs set)) (omega (arith, shown)),
+            next-le lastTime (seen columns .earliest) time (set .count) u (omega (arith, length-jobs set)) (omega (arith, shown)),
           )
 
       pub idle-reached : Reached js times work left later

@@ -2,7 +2,7 @@
 use Prim.Native.Nat.{ℕ, _≤_, _<_}
 use mathlib.Core.Path.{_≡_, refl, sym, ap, _∙_}
 use mathlib.Core.Bool.{Bool, true, false, cond, _&&_}
-use mathlib.Core.List.{List, []}
+use mathlib.Core.List.{List}
 use native.Mathlib.Omega.{arith}
 use lib.Dec.{leb}
 use lib.ListN.{length, getD}
@@ -21,14 +21,13 @@ use Rattle.theory.specs.Table.{Table, tableOf}
 use Rattle.theory.specs.Runs.{Entry, idle, runs, complete}
 use Rattle.theory.proofs.Columns.{seen, Alike}
 use Rattle.machine.specs.declared.state.State.{State}
-use Rattle.machine.specs.declared.columns.Columns.{Columns}
 use Rattle.machine.specs.declared.pick.Best.{Best}
 use Rattle.machine.specs.declared.step.Ticked.the-variants.{Ran, Idle, Finished, Refused as RefusedTick}
 use Rattle.laws.specs.Words.{everyBelow, numberAt}
 use Rattle.machine.specs.Ticks.{lastTime, allComplete, readyIn, machineCheck, bestUpTo, pick, moved, next, tickOf, possible, stateCheck, stepOf}
 use Rattle.laws.proofs.Every.{every-not, every-at, every-ext}
 use Rattle.theory.proofs.Legal.{complete-ne, ready-parts}
-use Rattle.machine.proofs.Readiness.{predecessor-bare, predecessor-alike}
+use Rattle.machine.proofs.Readiness.{predecessor-alike}
 use Rattle.machine.proofs.RunningTimes.{set-accepted, times-each}
 use Rattle.machine.proofs.Picks.{Chosen, Picked, none, one, picked-up-to, best-alike}
 
@@ -99,25 +98,20 @@ pub state-late : (t : Table) (times : List ℕ) (s : State) → lastTime < s .ti
 unfolding stateCheck
 state-late t times s l = rw (lt-leb (s .time) lastTime l)
 
-module _ (chain urgency release : List ℕ) {t : Table} {n : ℕ} (h : Alike (seen chain urgency release) t n) (whole : t .count ≡ n) (times : List ℕ) (s : State) where
-  possible-alike : (u : ℕ) → u < n → possible (seen chain [] release) times s u ≡ possible t times s u
+module _ (columns : List (List ℕ)) {t : Table} {n : ℕ} (h : Alike (seen columns) t n) (whole : t .count ≡ n) (times : List ℕ) (s : State) where
+  possible-alike : (u : ℕ) → u < n → possible (seen columns) times s u ≡ possible t times s u
   unfolding possible
-  possible-alike u l =
-      rw (
-        predecessor-bare chain urgency release times (numberAt (s .work)) u,
-        predecessor-alike h times (numberAt (s .work)) u l,
-        h .release u l,
-      )
+  possible-alike u l = rw (predecessor-alike h times (numberAt (s .work)) u l, h .release u l)
 
-  all-possible : everyBelow n (possible (seen chain [] release) times s) ≡ everyBelow (t .count) (possible t times s)
+  all-possible : everyBelow n (possible (seen columns) times s) ≡ everyBelow (t .count) (possible t times s)
   all-possible = every-ext _ (possible t times s) n possible-alike ∙ ap (λ (k : ℕ). everyBelow k (possible t times s)) (sym whole)
 
-  pub state-impossible : s .time ≤ lastTime → everyBelow n (possible (seen chain [] release) times s) ≡ false
+  pub state-impossible : s .time ≤ lastTime → everyBelow n (possible (seen columns) times s) ≡ false
       → stateCheck t times s ≡ Refused ImpossibleState
   unfolding stateCheck
   state-impossible l e = rw (le-leb (s .time) lastTime l, ← all-possible, e)
 
-  pub state-passes : s .time ≤ lastTime → everyBelow n (possible (seen chain [] release) times s) ≡ true
+  pub state-passes : s .time ≤ lastTime → everyBelow n (possible (seen columns) times s) ≡ true
       → stateCheck t times s ≡ Passed
   unfolding stateCheck
   state-passes l e = rw (le-leb (s .time) lastTime l, ← all-possible, e)
@@ -148,11 +142,11 @@ module _ (set : JobSet) (times : List ℕ) (passed : machineCheck (jobsOf set) t
   pub count-times : set .count ≤ length times
   count-times = omega (arith, length-jobs set, times-each (jobsOf set) times passed)
 
-abbrev pub Prepared : JobSet → Columns → List ℕ → Type 0
-Prepared set columns times = (machineCheck (jobsOf set) times ≡ Passed) × Alike (seen (columns .chain) (columns .urgency) (columns .release)) (tableOf (jobsOf set)) (set .count)
+abbrev pub Prepared : JobSet → List (List ℕ) → List ℕ → Type 0
+Prepared set columns times = (machineCheck (jobsOf set) times ≡ Passed) × Alike (seen columns) (tableOf (jobsOf set)) (set .count)
 
-module _ (set : JobSet) (columns : Columns) (times : List ℕ) (p : Prepared set columns times) where
-  module _ (s : State) (best : Best) (e : best ≡ bestUpTo (seen (columns .chain) (columns .urgency) (columns .release)) times s (set .count)) where
+module _ (set : JobSet) (columns : List (List ℕ)) (times : List ℕ) (p : Prepared set columns times) where
+  module _ (s : State) (best : Best) (e : best ≡ bestUpTo (seen columns) times s (set .count)) where
     pub advance-none : best .found ≡ false → pick (tableOf (jobsOf set)) times s ≡ idle
     advance-none f = scan-none (p .1) (length-jobs set) times s best e f
 

@@ -3,6 +3,10 @@ ghost use Rattle.laws.specs.Words.{_≡_, _<_, _≤_, cond, length};
 ghost use Rattle.jobs.specs.Limits.{maxJobs};
 ghost use Rattle.theory.proofs.Columns.{seen};
 ghost use Rattle.machine.specs.{Ticks.readyIn, Ticks.outranks, Ticks.better, Ticks.bestUpTo};
+use crate::columns::CHAIN;
+use crate::columns::Columns;
+use crate::columns::URGENCY;
+use crate::columns::figure;
 use crate::ready::is_ready;
 use jobs::set::JobSet;
 
@@ -48,34 +52,35 @@ pub fn better_of(best: Best, at: usize, urgency: u64, chain: u64) -> Best
 fn consider<'a, 'b>(
     best: Best,
     at: usize,
-    chain: &'a [u64; JobSet::MAX_JOBS],
-    urgency: &'a [u64; JobSet::MAX_JOBS],
-    release: &'a [u64; JobSet::MAX_JOBS],
+    columns: &'a Columns,
     times: &'a [u64],
     work: &'b [u64; JobSet::MAX_JOBS],
     time: u64,
 ) -> Best
     requires { ⌜ (at < maxJobs) × (at < length (now times)) ⌝ }
-    ensures { λ r. let t = seen (now (chain .entry)) (now (urgency .entry)) (now (release .entry)) in ⌜ r ≡ cond (readyIn t (now (times .entry)) (record { time = time; work = now (work .entry) }) at) (better best at (t .urgency at) (t .chain at)) best ⌝ }
+    ensures { λ r. let t = seen (now (columns .entry)) in ⌜ r ≡ cond (readyIn t (now (times .entry)) (record { time = time; work = now (work .entry) }) at) (better best at (t .urgency at) (t .chain at)) best ⌝ }
 {
-    if !is_ready(at, chain, release, times, work, time) {
+    if !is_ready(at, columns, times, work, time) {
         return best;
     }
-    better_of(best, at, urgency[at], chain[at])
+    better_of(
+        best,
+        at,
+        figure(columns, URGENCY, at),
+        figure(columns, CHAIN, at),
+    )
 }
 
 // The best of the first count jobs; its parts are carried one by one, which is much faster than to copy the whole.
 pub(crate) fn best_of<'a, 'b>(
     count: usize,
-    chain: &'a [u64; JobSet::MAX_JOBS],
-    urgency: &'a [u64; JobSet::MAX_JOBS],
-    release: &'a [u64; JobSet::MAX_JOBS],
+    columns: &'a Columns,
     times: &'a [u64],
     work: &'b [u64; JobSet::MAX_JOBS],
     time: u64,
 ) -> Best
     requires { ⌜ (count ≤ maxJobs) × (count ≤ length (now times)) ⌝ }
-    ensures { λ r. ⌜ r ≡ bestUpTo (seen (now (chain .entry)) (now (urgency .entry)) (now (release .entry))) (now (times .entry)) (record { time = time; work = now (work .entry) }) count ⌝ }
+    ensures { λ r. ⌜ r ≡ bestUpTo (seen (now (columns .entry))) (now (times .entry)) (record { time = time; work = now (work .entry) }) count ⌝ }
 {
     let mut found = false;
     let mut at: usize = 0;
@@ -89,7 +94,7 @@ pub(crate) fn best_of<'a, 'b>(
             urgency: best_urgency,
             chain: best_chain,
         };
-        let next = consider(best, n, chain, urgency, release, times, work, time);
+        let next = consider(best, n, columns, times, work, time);
         found = next.found;
         at = next.at;
         best_urgency = next.urgency;

@@ -1,9 +1,13 @@
 // Which jobs are ready, from columns of their figures.
-ghost use Rattle.laws.specs.Words.{_≡_, [], _<_, _≤_, length, numberAt};
+ghost use Rattle.laws.specs.Words.{_≡_, _<_, _≤_, length, numberAt};
 ghost use Rattle.jobs.specs.Limits.{maxJobs};
 ghost use Rattle.theory.specs.Runs.{complete, predecessorComplete};
 ghost use Rattle.theory.proofs.Columns.{seen};
 ghost use Rattle.machine.specs.Ticks.{allComplete, readyIn};
+use crate::columns::CHAIN;
+use crate::columns::Columns;
+use crate::columns::RELEASE;
+use crate::columns::figure;
 use jobs::set::JobSet;
 
 pub(crate) fn is_complete<'a, 'b>(
@@ -19,17 +23,17 @@ pub(crate) fn is_complete<'a, 'b>(
 
 pub(crate) fn is_predecessor_complete<'a, 'b>(
     at: usize,
-    chain: &'a [u64; JobSet::MAX_JOBS],
+    columns: &'a Columns,
     times: &'a [u64],
     work: &'b [u64; JobSet::MAX_JOBS],
 ) -> bool
     requires { ⌜ (at < maxJobs) × (at < length (now times)) ⌝ }
-    ensures { λ r. ⌜ r ≡ predecessorComplete (seen (now (chain .entry)) [] []) (now (times .entry)) (numberAt (now (work .entry))) at ⌝ }
+    ensures { λ r. ⌜ r ≡ predecessorComplete (seen (now (columns .entry))) (now (times .entry)) (numberAt (now (work .entry))) at ⌝ }
 {
     if at == 0 {
         return true;
     }
-    if chain[at - 1] != chain[at] {
+    if figure(columns, CHAIN, at - 1) != figure(columns, CHAIN, at) {
         return true;
     }
     is_complete(at - 1, times, work)
@@ -37,22 +41,21 @@ pub(crate) fn is_predecessor_complete<'a, 'b>(
 
 pub(crate) fn is_ready<'a, 'b>(
     at: usize,
-    chain: &'a [u64; JobSet::MAX_JOBS],
-    release: &'a [u64; JobSet::MAX_JOBS],
+    columns: &'a Columns,
     times: &'a [u64],
     work: &'b [u64; JobSet::MAX_JOBS],
     time: u64,
 ) -> bool
     requires { ⌜ (at < maxJobs) × (at < length (now times)) ⌝ }
-    ensures { λ r. ⌜ r ≡ readyIn (seen (now (chain .entry)) [] (now (release .entry))) (now (times .entry)) (record { time = time; work = now (work .entry) }) at ⌝ }
+    ensures { λ r. ⌜ r ≡ readyIn (seen (now (columns .entry))) (now (times .entry)) (record { time = time; work = now (work .entry) }) at ⌝ }
 {
-    if time < release[at] {
+    if time < figure(columns, RELEASE, at) {
         return false;
     }
     if is_complete(at, times, work) {
         return false;
     }
-    is_predecessor_complete(at, chain, times, work)
+    is_predecessor_complete(at, columns, times, work)
 }
 
 // Whether the first count jobs are complete.

@@ -23,22 +23,19 @@ fn run_through(set: JobSet, times: &[u64]) -> Completed
     ensures { λ r. ⌜ r ≡ runOf (jobsOf set) (now (times .entry)) ⌝ }
 {
     let columns = columns_of(set);
-    let chain = columns.chain;
-    let urgency = columns.urgency;
-    let release = columns.release;
     let mut work = [0u64; JobSet::MAX_JOBS];
     let mut completions = [0u64; JobSet::MAX_JOBS];
     let mut left = total(times);
     let mut time: u64 = 0;
     while 0 < left {
-        let best = best_of(set.count, &chain, &urgency, &release, times, &work, time);
+        let best = best_of(set.count, &columns, times, &work, time);
         if best.found {
             let at = best.at;
             work[at] = work[at] + 1;
             completions[at] = time + 1;
             left -= 1;
         }
-        time = next_time(best.found, set.count, &release, time);
+        time = next_time(best.found, set.count, &columns, time);
     }
     Completed {
         check: Check::Passed,

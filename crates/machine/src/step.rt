@@ -1,11 +1,13 @@
 // One tick on a state, by value, with its checks.
-ghost use Rattle.laws.specs.Words.{_≡_, [], _<_, _≤_, length, everyBelow};
+ghost use Rattle.laws.specs.Words.{_≡_, _<_, _≤_, length, everyBelow};
 ghost use Rattle.jobs.specs.{Limits.maxJobs, Jobs.jobsOf};
 ghost use Rattle.theory.specs.Table.{tableOf};
 ghost use Rattle.theory.proofs.Columns.{seen, Alike};
 ghost use Rattle.machine.specs.{Ticks.machineCheck, Ticks.possible, Ticks.stateCheck, Ticks.stepOf, Ticks.tickOf};
 use crate::columns::Columns;
+use crate::columns::RELEASE;
 use crate::columns::columns_of;
+use crate::columns::figure;
 use crate::pick::best_of;
 use crate::ready::are_complete;
 use crate::ready::is_predecessor_complete;
@@ -32,14 +34,13 @@ pub struct Stepped {
 // Whether the work of one job is possible at this time.
 fn is_possible<'a, 'b>(
     at: usize,
-    chain: &'a [u64; JobSet::MAX_JOBS],
-    release: &'a [u64; JobSet::MAX_JOBS],
+    columns: &'a Columns,
     times: &'a [u64],
     work: &'b [u64; JobSet::MAX_JOBS],
     time: u64,
 ) -> bool
     requires { ⌜ (at < maxJobs) × (at < length (now times)) ⌝ }
-    ensures { λ r. ⌜ r ≡ possible (seen (now (chain .entry)) [] (now (release .entry))) (now (times .entry)) (record { time = time; work = now (work .entry) }) at ⌝ }
+    ensures { λ r. ⌜ r ≡ possible (seen (now (columns .entry))) (now (times .entry)) (record { time = time; work = now (work .entry) }) at ⌝ }
 {
     if times[at] < work[at] {
         return false;
@@ -47,27 +48,26 @@ fn is_possible<'a, 'b>(
     if work[at] == 0 {
         return true;
     }
-    if !is_predecessor_complete(at, chain, times, work) {
+    if !is_predecessor_complete(at, columns, times, work) {
         return false;
     }
-    release[at] < time
+    figure(columns, RELEASE, at) < time
 }
 
 // Whether the work of each of the first count jobs is possible.
 fn are_possible<'a, 'b>(
     count: usize,
-    chain: &'a [u64; JobSet::MAX_JOBS],
-    release: &'a [u64; JobSet::MAX_JOBS],
+    columns: &'a Columns,
     times: &'a [u64],
     work: &'b [u64; JobSet::MAX_JOBS],
     time: u64,
 ) -> bool
     requires { ⌜ (count ≤ maxJobs) × (count ≤ length (now times)) ⌝ }
-    ensures { λ r. ⌜ r ≡ everyBelow count (possible (seen (now (chain .entry)) [] (now (release .entry))) (now (times .entry)) (record { time = time; work = now (work .entry) })) ⌝ }
+    ensures { λ r. ⌜ r ≡ everyBelow count (possible (seen (now (columns .entry))) (now (times .entry)) (record { time = time; work = now (work .entry) })) ⌝ }
 {
     let mut n: usize = 0;
     while n < count {
-        if !is_possible(n, chain, release, times, work, time) {
+        if !is_possible(n, columns, times, work, time) {
             return false;
         }
         n += 1;
@@ -76,33 +76,28 @@ fn are_possible<'a, 'b>(
 }
 
 // Refusal 11: a state that cannot be.
-fn check_state(state: State, set: JobSet, columns: Columns, times: &[u64]) -> Check
-    requires { ⌜ (machineCheck (jobsOf set) (now times) ≡ Check.Passed) × Alike (seen (columns .chain) (columns .urgency) (columns .release)) (tableOf (jobsOf set)) (set .count) ⌝ }
+fn check_state<'a>(state: State, set: JobSet, columns: &'a Columns, times: &'a [u64]) -> Check
+    requires { ⌜ (machineCheck (jobsOf set) (now times) ≡ Check.Passed) × Alike (seen (now columns)) (tableOf (jobsOf set)) (set .count) ⌝ }
     ensures { λ r. ⌜ r ≡ stateCheck (tableOf (jobsOf set)) (now (times .entry)) state ⌝ }
 {
-    let chain = columns.chain;
-    let release = columns.release;
     let work = state.work;
     if State::LAST_TIME < state.time {
         return Check::Refused(Refusal::ImpossibleState);
     }
-    if !are_possible(set.count, &chain, &release, times, &work, state.time) {
+    if !are_possible(set.count, columns, times, &work, state.time) {
         return Check::Refused(Refusal::ImpossibleState);
     }
     Check::Passed
 }
 
 // The tick itself, on a state that has passed.
-fn advance(state: State, set: JobSet, columns: Columns, times: &[u64]) -> Stepped
-    requires { ⌜ ((machineCheck (jobsOf set) (now times) ≡ Check.Passed) × Alike (seen (columns .chain) (columns .urgency) (columns .release)) (tableOf (jobsOf set)) (set .count)) × (stateCheck (tableOf (jobsOf set)) (now times) state ≡ Check.Passed) ⌝ }
+fn advance<'a>(state: State, set: JobSet, columns: &'a Columns, times: &'a [u64]) -> Stepped
+    requires { ⌜ ((machineCheck (jobsOf set) (now times) ≡ Check.Passed) × Alike (seen (now columns)) (tableOf (jobsOf set)) (set .count)) × (stateCheck (tableOf (jobsOf set)) (now times) state ≡ Check.Passed) ⌝ }
     ensures { λ r. ⌜ r ≡ tickOf (jobsOf set) (now (times .entry)) state ⌝ }
 {
-    let chain = columns.chain;
-    let urgency = columns.urgency;
-    let release = columns.release;
     let work = state.work;
     let time = state.time;
-    let best = best_of(set.count, &chain, &urgency, &release, times, &work, time);
+    let best = best_of(set.count, columns, times, &work, time);
     if best.found {
         let at = best.at;
         let mut next = state;
@@ -141,11 +136,11 @@ pub fn step(state: State, set: JobSet, times: &[u64]) -> Stepped
         };
     }
     let columns = columns_of(set);
-    if let Check::Refused(refusal) = check_state(state, set, columns, times) {
+    if let Check::Refused(refusal) = check_state(state, set, &columns, times) {
         return Stepped {
             ticked: Ticked::Refused(refusal),
             state,
         };
     }
-    advance(state, set, columns, times)
+    advance(state, set, &columns, times)
 }

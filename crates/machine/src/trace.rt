@@ -76,9 +76,6 @@ fn write_entries(set: JobSet, times: &[u64], out: &mut [u64]) -> usize
     ensures { λ r. ⌜ (r ≡ length (traced (jobsOf set) (now (times .entry)))) × (now (out .exit) ≡ patched (now (out .entry)) 0 (rows (jobsOf set) (traced (jobsOf set) (now (times .entry))))) ⌝ }
 {
     let columns = columns_of(set);
-    let chain = columns.chain;
-    let urgency = columns.urgency;
-    let release = columns.release;
     let mut work = [0u64; JobSet::MAX_JOBS];
     let mut left = total(times);
     let mut last = Span {
@@ -89,7 +86,7 @@ fn write_entries(set: JobSet, times: &[u64], out: &mut [u64]) -> usize
     let mut entries: usize = 0;
     let mut time: u64 = 0;
     while 0 < left {
-        let best = best_of(set.count, &chain, &urgency, &release, times, &work, time);
+        let best = best_of(set.count, &columns, times, &work, time);
         if best.found {
             let at = best.at;
             work[at] = work[at] + 1;
@@ -99,7 +96,7 @@ fn write_entries(set: JobSet, times: &[u64], out: &mut [u64]) -> usize
             last = put.span;
             entries = put.entries;
         }
-        time = next_time(best.found, set.count, &release, time);
+        time = next_time(best.found, set.count, &columns, time);
     }
     entries
 }

@@ -1,19 +1,27 @@
 -- A table whose figures stand in columns of numbers, as the code reads them. Assumes nothing.
 use Prim.Native.Nat.{ℕ, suc, _+_, _*_, _≤_, _<_}
 use mathlib.Core.Path.{_≡_}
-use mathlib.Core.List.{List, [], _∷_}
-use lib.ListN.{length, getD}
+use mathlib.Core.List.{List, []}
+use lib.ListN.{getD, set}
 use Rattle.laws.specs.Words.{tabulate, padded}
 use Rattle.jobs.specs.Limits.{maxJobs, maxRelease, maxTime}
 use Rattle.theory.specs.Table.{Table}
 
--- How many columns there are.
+-- How many columns the bounds are made from.
 abbrev pub columnCount : ℕ
 columnCount = 6
+
+-- How many columns the machine reads.
+abbrev pub seenCount : ℕ
+seenCount = 3
 
 -- The figure at place i of column k.
 abbrev pub figure : List (List ℕ) → ℕ → ℕ → ℕ
 figure columns k i = getD (getD columns k []) i 0
+
+-- Columns with a figure stored at place i of column k.
+abbrev pub put : ℕ → ℕ → ℕ → List (List ℕ) → List (List ℕ)
+put k i x columns = set columns k (set (getD columns k []) i x)
 
 -- The table of the jobs whose figures stand in lent columns; the bounds do not read the least times.
 abbrev pub lent : ℕ → List (List ℕ) → Table
@@ -29,8 +37,17 @@ lent count columns =
     }
 
 -- The table of the jobs whose figures the machine reads from columns: it reads no times, and one release of each job.
-abbrev pub seen : List ℕ → List ℕ → List ℕ → Table
-seen chain urgency release = lent (length chain) (chain ∷ urgency ∷ [] ∷ release ∷ release ∷ [])
+abbrev pub seen : List (List ℕ) → Table
+seen columns =
+    record {
+      count = maxJobs;
+      chain = λ i. figure columns 0 i;
+      urgency = λ i. figure columns 1 i;
+      least = λ i. 0;
+      most = λ i. 0;
+      earliest = λ i. figure columns 2 i;
+      latest = λ i. figure columns 2 i;
+    }
 
 -- Two tables agree in the figures that the machine reads of their first n jobs.
 pub record Alike (a b : Table) (n : ℕ) : Type 0 where

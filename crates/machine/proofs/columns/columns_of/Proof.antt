@@ -1,6 +1,6 @@
 -- `columns_of` meets its contract. The loop's invariant: the columns are filled up to place n. Assumes nothing.
 use Prim.Native.Nat.{_-_, _≤_}
-use mathlib.Core.Path.{refl, sym}
+use mathlib.Core.Path.{sym}
 use native.Mathlib.Omega.{arith}
 use borrow.Author.Needs.{needs}
 use Rattle.jobs.specs.Limits.{maxJobs}
@@ -11,50 +11,57 @@ use Rattle.machine.proofs.columns.columns_of.Statement.{statement}
 use Rattle.machine.proofs.columns.columns_of.Tie as tie
 
 abbrev Inv-loop : tie.InvT-loop
-Inv-loop set chain₀ urgency₀ release₀ count last₀ before₀ n₀ chain urgency release last before n = Filled (jobsOf set) n last before chain urgency release
+Inv-loop set columns₀ count last₀ before₀ n₀ columns last before n = (count ≤ maxJobs) × Filled (jobsOf set) n last before columns
 
 abbrev μ-loop : tie.MeasureT-loop
-μ-loop set chain₀ urgency₀ release₀ count last₀ before₀ n₀ chain urgency release last before n = count - n
+μ-loop set columns₀ count last₀ before₀ n₀ columns last before n = count - n
 
 none-requires : tie.Need-none-requires Inv-loop μ-loop
 none-requires c κs = search needs
 
 loop-holds : tie.Need-loop-holds Inv-loop μ-loop
-loop-holds c = filled-start (jobsOf (c .before .args .t1)) (c .before .pre) _ _ _ refl refl refl _ (c .none .ensures)
-
--- a set has no more jobs than places
-few : (n : tie.After-none Inv-loop μ-loop) → n .before .args .t1 .count ≤ maxJobs
-few n = omega (arith, length-jobs (n .before .args .t1), n .before .pre .few)
+loop-holds c =
+    let s = c .before .args .t1 in
+    (omega (arith, length-jobs s, c .before .pre .few), filled-start (jobsOf s) (c .before .pre) _ (c .none .ensures))
 
 mul-job : tie.Need-mul-job Inv-loop μ-loop
-mul-job c = omega (arith, few (c .before .before), c .loop-test .taken)
+mul-job c = search needs
 
 element-copy-out-job : tie.Need-element-copy-out-job Inv-loop μ-loop
-element-copy-out-job c = omega (arith, few (c .before .before), c .loop-test .taken)
+element-copy-out-job c = search needs
 
 release-after-requires : tie.Need-release-after-requires Inv-loop μ-loop
-release-after-requires c κs = filled-fits _ (c .before .before .before .before .pre) (c .before .before .loop .inv)
+release-after-requires c κs = filled-fits _ (c .before .before .before .before .pre) (c .before .before .loop .inv .1)
 
-mul-chain : tie.Need-mul-chain Inv-loop μ-loop
-mul-chain c = omega (arith, few (c .before .before .before .before), c .before .before .loop-test .taken)
+mul-columns : tie.Need-mul-columns Inv-loop μ-loop
+mul-columns c = search needs
 
-array-write-chain : tie.Need-array-write-chain Inv-loop μ-loop
-array-write-chain c = omega (arith, few (c .before .before .before .before), c .before .before .loop-test .taken)
+index-1-columns : tie.Need-index-1-columns Inv-loop μ-loop
+index-1-columns c = search needs
+
+index-2-columns : tie.Need-index-2-columns Inv-loop μ-loop
+index-2-columns c = search needs
 
 urgency-requires : tie.Need-urgency-requires Inv-loop μ-loop
 urgency-requires c κs = search needs
 
-mul-urgency : tie.Need-mul-urgency Inv-loop μ-loop
-mul-urgency c = omega (arith, few (c .before .before .before .before .before), c .before .before .before .loop-test .taken)
+mul-columns-2 : tie.Need-mul-columns-2 Inv-loop μ-loop
+mul-columns-2 c = search needs
 
-array-write-urgency : tie.Need-array-write-urgency Inv-loop μ-loop
-array-write-urgency c = omega (arith, few (c .before .before .before .before .before), c .before .before .before .loop-test .taken)
+index-1-columns-2 : tie.Need-index-1-columns-2 Inv-loop μ-loop
+index-1-columns-2 c = search needs
 
-mul-release : tie.Need-mul-release Inv-loop μ-loop
-mul-release c = omega (arith, few (c .before .before .before .before .before), c .before .before .before .loop-test .taken)
+index-2-columns-2 : tie.Need-index-2-columns-2 Inv-loop μ-loop
+index-2-columns-2 c = search needs
 
-array-write-release : tie.Need-array-write-release Inv-loop μ-loop
-array-write-release c = omega (arith, few (c .before .before .before .before .before), c .before .before .before .loop-test .taken)
+mul-columns-3 : tie.Need-mul-columns-3 Inv-loop μ-loop
+mul-columns-3 c = search needs
+
+index-1-columns-3 : tie.Need-index-1-columns-3 Inv-loop μ-loop
+index-1-columns-3 c = search needs
+
+index-2-columns-3 : tie.Need-index-2-columns-3 Inv-loop μ-loop
+index-2-columns-3 c = search needs
 
 add-n : tie.Need-add-n Inv-loop μ-loop
 add-n c = search needs
@@ -66,12 +73,15 @@ loop-again : tie.Need-loop-again Inv-loop μ-loop
 loop-again c =
     let s = c .before .before .before .before .before .before in
     let l = c .before .before .before .before .loop in
-    let taken = c .before .before .before .loop-test .taken in
-    let released = c .before .release-after in
-    filled-next _ (s .pre) (l .inv) (omega (arith, length-jobs (s .args .t1))) _ (sym (job-at (s .args .t1) (l .n) taken)) _ (released .ensures) _ (c .urgency .ensures)
+    let here = sym (job-at (s .args .t1) (l .n) (c .before .before .before .loop-test .taken)) in
+    let next = filled-next _ (s .pre) (l .inv .1) (omega (arith, length-jobs (s .args .t1))) _ here _ (c .before .release-after .ensures) _ (c .urgency .ensures) in
+    (l .inv .0, next)
 
 returns : tie.Need-returns Inv-loop μ-loop
-returns c = filled-end _ (c .before .before .before .pre) (c .before .loop .inv) _ (omega (arith, c .before .loop .inv .inside, length-jobs (c .before .before .before .args .t1), c .loop-test .left))
+returns c =
+    let s = c .before .before .before in
+    let l = c .before .loop in
+    filled-end _ (s .pre) (l .inv .1) _ (omega (arith, l .inv .1 .inside, length-jobs (s .args .t1), c .loop-test .left))
 
 pub columns-of-spec : {M : Type 1} → statement M
 columns-of-spec =
@@ -84,13 +94,16 @@ columns-of-spec =
     mul-job
     element-copy-out-job
     release-after-requires
-    mul-chain
-    array-write-chain
+    mul-columns
+    index-1-columns
+    index-2-columns
     urgency-requires
-    mul-urgency
-    array-write-urgency
-    mul-release
-    array-write-release
+    mul-columns-2
+    index-1-columns-2
+    index-2-columns-2
+    mul-columns-3
+    index-1-columns-3
+    index-2-columns-3
     add-n
     loop-less
     loop-again

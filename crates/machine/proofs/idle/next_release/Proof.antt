@@ -1,32 +1,26 @@
 -- `next_release` answers `nextRelease`. The loop's invariant: the next release of the first n jobs is known. Assumes nothing.
-use Prim.Native.Nat.{ℕ, _-_, _≤_, min}
+use Prim.Native.Nat.{_-_, _≤_}
 use mathlib.Core.Path.{_≡_, sym, ap, _∙_}
-use mathlib.Core.Bool.{cond}
 use native.Mathlib.Numerals.{add-one}
 use native.Mathlib.Omega.{arith}
-use lib.Dec.{ltb}
-use lib.ListN.{getD}
 use borrow.Author.Needs.{needs}
+use Rattle.theory.proofs.Columns.{seen}
 use Rattle.theory.proofs.NextRelease.{nextRelease, next-none, next-step}
 use Rattle.machine.specs.Ticks.{lastTime}
 use Rattle.machine.proofs.idle.next_release.Statement.{statement}
 use Rattle.machine.proofs.idle.next_release.Tie as tie
 
 abbrev Inv-loop : tie.InvT-loop
-Inv-loop count release time next₀ n₀ next n =
-    (n ≤ count) × (next ≡ nextRelease lastTime (λ i. getD release i 0) time n)
+Inv-loop count columns time next₀ n₀ next n = (n ≤ count) × (next ≡ nextRelease lastTime (seen columns .earliest) time n)
 
 abbrev μ-loop : tie.MeasureT-loop
-μ-loop count release time next₀ n₀ next n = count - n
+μ-loop count columns time next₀ n₀ next n = count - n
 
 loop-holds : tie.Need-loop-holds Inv-loop μ-loop
-loop-holds c = (omega arith, sym (next-none lastTime (λ i. getD (c .args .release .now) i 0) (c .args .time)))
+loop-holds c = (omega arith, sym (next-none lastTime (seen (c .args .columns .now) .earliest) (c .args .time)))
 
-mul-sooner : tie.Need-mul-sooner Inv-loop μ-loop
-mul-sooner c = search needs
-
-element-copy-out-sooner : tie.Need-element-copy-out-sooner Inv-loop μ-loop
-element-copy-out-sooner c = search needs
+figure-requires : tie.Need-figure-requires Inv-loop μ-loop
+figure-requires c κs = search needs
 
 sooner-requires : tie.Need-sooner-requires Inv-loop μ-loop
 sooner-requires c κs = search needs
@@ -39,17 +33,17 @@ loop-less c = search needs
 
 loop-again : tie.Need-loop-again Inv-loop μ-loop
 loop-again c =
-    let s = c .before .before .before .before in
+    let a = c .before .before .before .before .args in
     let l = c .before .before .before .loop in
-    let release : ℕ → ℕ = (λ i. getD (s .args .release .now) i 0) in
-    (omega arith, rw add-one (c .sooner .ensures ∙ ap (λ (z : ℕ). cond (ltb (s .args .time) (release (l .n))) (min z (release (l .n))) z) (l .inv .1) ∙ sym (next-step lastTime release (s .args .time) (l .n))))
+    let step = next-step lastTime (seen (a .columns .now) .earliest) (a .time) (l .n) in
+    (omega arith, c .sooner .ensures ∙ rw (c .before .figure .ensures, l .inv .1, add-one) (sym step))
 
 returns : tie.Need-returns Inv-loop μ-loop
 returns c =
-    let s = c .before .before in
+    let a = c .before .before .args in
     let l = c .before .loop in
-    let e : l .n ≡ s .args .count = omega arith in
-    l .inv .1 ∙ ap (nextRelease lastTime (λ i. getD (s .args .release .now) i 0) (s .args .time)) e
+    let e : l .n ≡ a .count = omega arith in
+    l .inv .1 ∙ ap (nextRelease lastTime (seen (a .columns .now) .earliest) (a .time)) e
 
 pub next-release-spec : {M : Type 1} → statement M
 next-release-spec =
@@ -58,8 +52,7 @@ next-release-spec =
     Inv-loop
     μ-loop
     loop-holds
-    mul-sooner
-    element-copy-out-sooner
+    figure-requires
     sooner-requires
     add-n
     loop-less

@@ -11,12 +11,12 @@ use Rattle.machine.proofs.pick.best_of.Statement.{statement}
 use Rattle.machine.proofs.pick.best_of.Tie as tie
 
 abbrev Inv-loop : tie.InvT-loop
-Inv-loop count chain urgency release times work time found₀ at₀ best-urgency₀ best-chain₀ n₀ found at best-urgency best-chain n =
+Inv-loop count columns times work time found₀ at₀ best-urgency₀ best-chain₀ n₀ found at best-urgency best-chain n =
     (n ≤ count)
-    × (record { found = found; at = at; urgency = best-urgency; chain = best-chain } ≡ bestUpTo (seen chain urgency release) times (stateOf time work) n)
+    × (record { found = found; at = at; urgency = best-urgency; chain = best-chain } ≡ bestUpTo (seen columns) times (stateOf time work) n)
 
 abbrev μ-loop : tie.MeasureT-loop
-μ-loop count chain urgency release times work time found₀ at₀ best-urgency₀ best-chain₀ n₀ found at best-urgency best-chain n = count - n
+μ-loop count columns times work time found₀ at₀ best-urgency₀ best-chain₀ n₀ found at best-urgency best-chain n = count - n
 
 loop-holds : tie.Need-loop-holds Inv-loop μ-loop
 unfolding bestUpTo

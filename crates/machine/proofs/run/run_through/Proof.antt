@@ -7,45 +7,42 @@ use denote.Ref.{now}
 use Rattle.jobs.specs.Jobs.{jobsOf}
 use Rattle.machine.specs.Ticks.{lastTime}
 use Rattle.machine.proofs.RunningTimes.{set-accepted, times-brief}
-use Rattle.machine.proofs.Ticking.{Prepared, count-few, count-times}
+use Rattle.machine.proofs.Ticking.{count-few, count-times}
 use Rattle.machine.proofs.Running.{reached-start, reached-finish, Reached, Noted, noted-start, noted-ran, noted-idle, noted-all, run-done, Turn, turn-early, turn-room, turn-work, turn-reached, turn-entry, turn-later, turn-ran, idle-reached, idle-kept}
 use Rattle.machine.proofs.run.run_through.Statement.{statement}
 use Rattle.machine.proofs.run.run_through.Tie as tie
 
 abbrev Inv-loop : tie.InvT-loop
-Inv-loop set times chain urgency release work₀ completions₀ left₀ time₀ work completions left time = Reached (jobsOf set) times work left time × Noted (jobsOf set) times completions time
+Inv-loop set times columns work₀ completions₀ left₀ time₀ work completions left time = Reached (jobsOf set) times work left time × Noted (jobsOf set) times completions time
 
 abbrev μ-loop : tie.MeasureT-loop
-μ-loop set times chain urgency release work₀ completions₀ left₀ time₀ work completions left time = lastTime - time
-
-prepared : (c : tie.After-columns-of Inv-loop μ-loop) → Prepared (c .before .before .args .set) (c .columns-of .result) (now (c .before .before .args .times))
-prepared c = (c .before .before .pre, c .columns-of .ensures)
+μ-loop set times columns work₀ completions₀ left₀ time₀ work completions left time = lastTime - time
 
 -- what is known after the scan
 module _ (c : tie.After-best-of Inv-loop μ-loop) where
+  abbrev head : tie.At-loop Inv-loop μ-loop
+  head = c .before .before .before .before
+
   abbrev made : tie.After-columns-of Inv-loop μ-loop
-  made = c .before .before .before .before .before .before .before .before .before .before .before
+  made = head .before .before
 
   abbrev start : tie.Start Inv-loop μ-loop
   start = made .before .before
 
-  abbrev head : tie.At-loop Inv-loop μ-loop
-  head = c .before .before .before .before .before .before
-
   turn : Turn (start .args .set) (made .columns-of .result) (now (start .args .times)) (head .loop .work) (head .loop .left) (head .loop .time) (c .best-of .result)
-  turn = record { prepared = prepared made; reached = head .loop .inv .0; more = c .before .before .before .before .before .loop-test .taken; scanned = c .best-of .ensures }
+  turn = record { prepared = (start .pre, made .columns-of .ensures); reached = head .loop .inv .0; more = c .before .before .before .loop-test .taken; scanned = c .best-of .ensures }
 
 columns-of-requires : tie.Need-columns-of-requires Inv-loop μ-loop
 columns-of-requires c κs = set-accepted _ _ (c .before .pre)
 
 total-requires : tie.Need-total-requires Inv-loop μ-loop
-total-requires c κs = times-brief _ _ (c .before .before .before .before .before .pre)
+total-requires c κs = times-brief _ _ (c .before .before .pre)
 
 loop-holds : tie.Need-loop-holds Inv-loop μ-loop
-loop-holds c = (reached-start _ _ (c .before .before .before .before .before .before .pre) _ (c .total .ensures), noted-start _ _ (c .before .before .before .before .before .before .pre))
+loop-holds c = let passed = c .before .before .before .pre in (reached-start _ _ passed _ (c .total .ensures), noted-start _ _ passed)
 
 best-of-requires : tie.Need-best-of-requires Inv-loop μ-loop
-best-of-requires c κs = (count-few _ _ (prepared (c .before .before .before .before .before .before .before .before .before .before) .0), count-times _ _ (prepared (c .before .before .before .before .before .before .before .before .before .before) .0))
+best-of-requires c κs = let passed = c .before .before .before .before .before .before .before .pre in (count-few _ _ passed, count-times _ _ passed)
 
 mul-work : tie.Need-mul-work Inv-loop μ-loop
 mul-work c = omega (arith, turn-room (turn (c .before)) (c .if1 .taken))
@@ -54,7 +51,9 @@ array-read-work : tie.Need-array-read-work Inv-loop μ-loop
 array-read-work c = turn-room (turn (c .before)) (c .if1 .taken)
 
 add-work : tie.Need-add-work Inv-loop μ-loop
-add-work c = omega (arith, turn-work (turn (c .before)) (c .if1 .taken), c .before .before .before .before .before .before .before .before .before .before .before .before .before .shared-slice-known .given (c .before .best-of .result .at))
+add-work c =
+    let scan = c .before in
+    omega (arith, turn-work (turn scan) (c .if1 .taken), c .before .before .before .before .before .before .before .before .shared-slice-known .given (scan .best-of .result .at))
 
 mul-work-2 : tie.Need-mul-work-2 Inv-loop μ-loop
 mul-work-2 c = omega (arith, turn-room (turn (c .before)) (c .if1 .taken))
@@ -99,7 +98,11 @@ loop-again c =
     (c .before .before .if1 .came)
 
 returns : tie.Need-returns Inv-loop μ-loop
-returns c = run-done _ _ (c .before .before .before .before .before .before .before .before .pre) _ _ _ (reached-finish _ _ (c .before .before .before .before .before .before .before .before .pre) (c .before .loop .inv .0) (c .loop-test .left)) (noted-all _ _ (c .before .before .before .before .before .before .before .before .pre) (c .before .loop .inv .1) (c .before .loop .inv .0) (c .loop-test .left))
+returns c =
+    let passed = c .before .before .before .before .before .pre in
+    let l = c .before .loop in
+    let none = c .loop-test .left in
+    run-done _ _ passed _ _ _ (reached-finish _ _ passed (l .inv .0) none) (noted-all _ _ passed (l .inv .1) (l .inv .0) none)
 
 pub run-through-spec : {M : Type 1} → statement M
 run-through-spec =

@@ -2,7 +2,6 @@
 use Prim.Native.Nat.{_≤_, _-_}
 use mathlib.Core.Path.{_≡_, sym, _∙_}
 use mathlib.Core.Bool.{true}
-use mathlib.Core.List.{[]}
 use native.Mathlib.Omega.{arith}
 use borrow.Author.Tests.{not-true, not-false}
 use borrow.Author.Needs.{needs}
@@ -15,10 +14,10 @@ use Rattle.machine.proofs.step.are_possible.Statement.{statement}
 use Rattle.machine.proofs.step.are_possible.Tie as tie
 
 abbrev Inv-loop : tie.InvT-loop
-Inv-loop count chain release times work time n₀ n = (n ≤ count) × (everyBelow n (possible (seen chain [] release) times (stateOf time work)) ≡ true)
+Inv-loop count columns times work time n₀ n = (n ≤ count) × (everyBelow n (possible (seen columns) times (stateOf time work)) ≡ true)
 
 abbrev μ-loop : tie.MeasureT-loop
-μ-loop count chain release times work time n₀ n = count - n
+μ-loop count columns times work time n₀ n = count - n
 
 loop-holds : tie.Need-loop-holds Inv-loop μ-loop
 loop-holds c = (omega arith, every-none _)

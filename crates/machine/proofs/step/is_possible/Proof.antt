@@ -1,13 +1,8 @@
 -- `is_possible` meets its contract. Assumes nothing.
-use mathlib.Core.List.{[]}
-use mathlib.Core.Path.{_≡_, sym, _∙_}
+use mathlib.Core.Path.{sym, _∙_}
 use borrow.Author.Tests.{lt-leb, le-leb, eq-eqb, ne-eqb, not-true, not-false}
 use borrow.Author.Needs.{needs}
-use Rattle.laws.specs.Words.{numberAt}
-use Rattle.theory.specs.Runs.{predecessorComplete}
-use Rattle.theory.proofs.Columns.{seen}
 use Rattle.machine.specs.Ticks.{possible}
-use Rattle.machine.proofs.Readiness.{predecessor-seen}
 use Rattle.machine.proofs.step.is_possible.Statement.{statement}
 use Rattle.machine.proofs.step.is_possible.Tie as tie
 
@@ -43,19 +38,17 @@ is-predecessor-complete-requires c κs = search needs
 returns-3 : tie.Need-returns-3
 unfolding possible
 returns-3 c =
-    let a = c .before .before .before .before .before .before .before .before .args in
-    let e : c .before .is-predecessor-complete .result ≡ predecessorComplete (seen (a .chain .now) [] []) (a .times .now) (numberAt (a .work .now)) (a .at) = c .before .is-predecessor-complete .ensures in
-    simp (le-leb _ _ (c .before .before .before .before .if1 .left), ne-eqb _ _ (c .before .before .if2 .left), sym (predecessor-seen (a .chain .now) [] (a .release .now) (a .times .now) (numberAt (a .work .now)) (a .at)) ∙ sym e ∙ not-true _ (c .if3 .taken))
+    let not-done = sym (c .before .is-predecessor-complete .ensures) ∙ not-true _ (c .if3 .taken) in
+    simp (le-leb _ _ (c .before .before .before .before .if1 .left), ne-eqb _ _ (c .before .before .if2 .left), not-done)
 
-mul-result : tie.Need-mul-result
-mul-result c = search needs
-
-element-copy-out-result : tie.Need-element-copy-out-result
-element-copy-out-result c = search needs
+figure-requires : tie.Need-figure-requires
+figure-requires c κs = search needs
 
 returns-4 : tie.Need-returns-4
 unfolding possible
-returns-4 c = let a = c .before .before .before .before .before .before .before .before .before .args in simp (le-leb _ _ (c .before .before .before .before .before .if1 .left), ne-eqb _ _ (c .before .before .before .if2 .left), sym (predecessor-seen (a .chain .now) [] (a .release .now) (a .times .now) (numberAt (a .work .now)) (a .at)) ∙ sym (c .before .before .is-predecessor-complete .ensures) ∙ not-false _ (c .before .if3 .left))
+returns-4 c =
+    let done = sym (c .before .before .is-predecessor-complete .ensures) ∙ not-false _ (c .before .if3 .left) in
+    simp (le-leb _ _ (c .before .before .before .before .before .if1 .left), ne-eqb _ _ (c .before .before .before .if2 .left), done, c .figure .ensures)
 
 pub is-possible-spec : {M : Type 1} → statement M
 is-possible-spec =
@@ -71,6 +64,5 @@ is-possible-spec =
     returns-2
     is-predecessor-complete-requires
     returns-3
-    mul-result
-    element-copy-out-result
+    figure-requires
     returns-4)
