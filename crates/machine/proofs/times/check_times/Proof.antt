@@ -23,7 +23,9 @@ enum-told : tie.Need-enum-told
 enum-told c = search needs
 
 are-fitting-requires : tie.Need-are-fitting-requires
-are-fitting-requires c κs = omega (arith, length-jobs (c .before .before .before .before .args .set), accepted (jobsOf (c .before .before .before .before .args .set)) (sym (c .before .before .check .ensures) ∙ c .enum-told .given .1) .few)
+are-fitting-requires c κs =
+    let s = c .before .before .before .before in
+    omega (arith, length-jobs (s .args .set), accepted (jobsOf (s .args .set)) (sym (c .before .before .check .ensures) ∙ c .enum-told .given .1) .few)
 
 returns-2 : tie.Need-returns-2
 returns-2 c = sym (times-refused (jobsOf (c .before .before .before .before .before .before .args .set)) _ (sym (c .before .are-fitting .ensures) ∙ not-true _ (c .if1 .taken)) (sym (c .before .before .before .before .check .ensures) ∙ c .before .before .enum-told .given .1))

@@ -24,7 +24,9 @@ shared-slice-read-sum : tie.Need-shared-slice-read-sum Inv-loop μ-loop
 shared-slice-read-sum c = search needs
 
 add-sum : tie.Need-add-sum Inv-loop μ-loop
-add-sum c = omega (arith, sum-limit (c .before .before .before .args .times .now) (c .before .before .before .pre .1) (c .before .before .loop .n) (c .before .before .loop .inv .0), c .before .before .loop .inv .1, c .before .before .before .pre .1 (c .before .before .loop .n) (c .before .loop-test .taken), c .before .before .before .pre .0)
+add-sum c =
+    let s = c .before .before .before in
+    omega (arith, sum-limit (s .args .times .now) (s .pre .1) (c .before .before .loop .n) (c .before .before .loop .inv .0), c .before .before .loop .inv .1, s .pre .1 (c .before .before .loop .n) (c .before .loop-test .taken), s .pre .0)
 
 add-n : tie.Need-add-n Inv-loop μ-loop
 add-n c = search needs

@@ -36,7 +36,9 @@ number c = wrote-more (columnText 0 (c .before .before .before .before .before .
 line : (c : tie.After-write-bytes2)
     → let s = c .before .before .before .before .before .before .before .before .before .before .before .before .before .before .before .before in
     Wrote (s .args .out .now) 0 (refusedText (s .args .refusal)) (c .write-bytes2 .last .1 .0) (c .write-bytes2 .result)
-line c = rw (← refused-pieces (c .before .before .before .before .before .before .before .before .before .before .before .before .before .before .before .before .args .refusal) (c .before .before .before .before .before .before .before .before .before .before .before .before .before .before .number .result) (c .before .before .before .before .before .before .before .before .before .before .before .before .before .before .number .ensures)) (wrote-more lineEnd (number (c .before .before .before .before .before)) (c .write-bytes2 .ensures))
+line c =
+    let told = c .before .before .before .before .before .before .before .before .before .before .before .before .before .before .number in
+    rw (← refused-pieces (c .before .before .before .before .before .before .before .before .before .before .before .before .before .before .before .before .args .refusal) (told .result) (told .ensures)) (wrote-more lineEnd (number (c .before .before .before .before .before)) (c .write-bytes2 .ensures))
 
 number-requires : tie.Need-number-requires
 number-requires c κs = search needs
@@ -63,14 +65,19 @@ write-bytes-requires c κs = search needs
 
 write-column-requires : tie.Need-write-column-requires
 write-column-requires c κs =
-    wrote-room (columnText 0 (c .before .before .before .before .before .before .before .before .number .result)) (word (c .before .before .before)) (omega (arith, fits (c .before .before .before .before .before .before), refused-length (c .before .before .before .before .before .before .before .before .before .before .args .refusal), ap digitCount (c .before .before .before .before .before .before .before .before .number .ensures), first-length 0 (c .before .before .before .before .before .before .before .before .number .result) refl))
+    let number = c .before .before .before .before .before .before .before .before .number in
+    wrote-room (columnText 0 (number .result)) (word (c .before .before .before))
+    (omega (arith, fits (c .before .before .before .before .before .before), refused-length (c .before .before .before .before .before .before .before .before .before .before .args .refusal), ap digitCount (number .ensures), first-length 0 (number .result) refl))
 
 slice-aggregate-write-bytes-2 : tie.Need-slice-aggregate-write-bytes-2
 slice-aggregate-write-bytes-2 c = search needs
 
 write-bytes-requires-2 : tie.Need-write-bytes-requires-2
 write-bytes-requires-2 c κs =
-    wrote-room lineEnd (number (c .before .before .before .before)) (omega (arith, fits (c .before .before .before .before .before .before .before .before .before .before .before), refused-length (c .before .before .before .before .before .before .before .before .before .before .before .before .before .before .before .args .refusal), ap digitCount (c .before .before .before .before .before .before .before .before .before .before .before .before .before .number .ensures), first-length 0 (c .before .before .before .before .before .before .before .before .before .before .before .before .before .number .result) refl, length-append ([] ++ ascii "refused,") (columnText 0 (c .before .before .before .before .before .before .before .before .before .before .before .before .before .number .result))))
+    let told = c .before .before .before .before .before .before .before .before .before .before .before .before .before .number in
+    let digits = columnText 0 (told .result) in
+    wrote-room lineEnd (number (c .before .before .before .before))
+    (omega (arith, fits (c .before .before .before .before .before .before .before .before .before .before .before), refused-length (c .before .before .before .before .before .before .before .before .before .before .before .before .before .before .before .args .refusal), ap digitCount (told .ensures), first-length 0 (told .result) refl, length-append ([] ++ ascii "refused,") digits))
 
 same-length : tie.Need-same-length
 same-length c = let h = wrote-length (line (c .before .before)) (omega (arith, fits (c .before .before .before .before .before .before .before .before .before .before .before .before .before .before))) in search (needs, h)
