@@ -69,6 +69,11 @@ returns c =
 figure-requires-4 : tie.Need-figure-requires-4 Inv-loop μ-loop
 figure-requires-4 c κs = search needs
 
+-- the job at hand is of the chain of j
+same-chain : (c : tie.Else1 Inv-loop μ-loop)
+    → let t = table (c .before .before .before .before .before .before .before) in t .chain (c .before .before .before .loop .k - 1) ≡ t .chain (c .before .before .before .before .before .before .before .args .j)
+same-chain c = rw (c .before .figure3 .ensures, c .before .before .before .before .before .before .figure .ensures) at (c .if1 .left)
+
 -- the lowest urgency with that of the job at hand, and the interference on the pair, by their places in the table
 lowered : (c : tie.After-lower Inv-loop μ-loop)
     → let s = c .before .before .before .before .before .before .before .before .before .before in let l = c .before .before .before .before .before .before .loop in c .lower .result ≡ min (l .low) (table s .urgency (l .k - 1))
@@ -127,12 +132,15 @@ loop-again : tie.Need-loop-again Inv-loop μ-loop
 loop-again c =
     let s = c .before .before .before .before .before .before .before .before .before .before .before .before .before .before in
     let l = c .before .before .before .before .before .before .before .before .before .before .loop in
-    let e = previous (c .before .before .before .before .before .before .before .before .before .before) (c .before .before .before .before .before .before .before .before .before .loop-test .taken) in
-    let i : l .k - 1 < s .args .count = omega (arith, l .inv .inside, s .pre .2, c .before .before .before .before .before .before .before .before .before .loop-test .taken) in
-    let low = walked-low (table s) (s .args .j) (keep s) maxTime (l .inv) e (c .before .before .before .before .lower .result) (lowered (c .before .before .before .before)) in
+    let taken = c .before .before .before .before .before .before .before .before .before .loop-test .taken in
+    let e = previous (c .before .before .before .before .before .before .before .before .before .before) taken in
+    let i : l .k - 1 < s .args .count = omega (arith, l .inv .inside, s .pre .2, taken) in
+    let lower = c .before .before .before .before .lower .result in
+    let low = walked-low (table s) (s .args .j) (keep s) maxTime (l .inv) e lower (lowered (c .before .before .before .before)) in
+    let sum = walked-sum (table s) (s .args .j) (keep s) maxTime (l .inv) e in
     rw (c .before .before .before .before .before .before .figure4 .ensures)
-    (walked-next (table s) (s .args .j) (keep s) maxTime (l .inv) e (c .before .before .before .before .lower .result) _ (c .larger .result) (rw (c .before .before .before .before .before .before .before .before .figure3 .ensures, c .before .before .before .before .before .before .before .before .before .before .before .before .before .figure .ensures) at (c .before .before .before .before .before .before .before .if1 .left)) (s .pre .0 .mosts (l .k - 1) i) (lowered (c .before .before .before .before))
-    (pair-is (s .args .count) (s .args .columns .now) (s .args .bound .now) (l .k - 1) (s .args .j) _ _ _ (omega (arith, l .inv .inside)) (walked-sum (table s) (s .args .j) (keep s) maxTime (l .inv) e) low (delayed (c .before .before)))
+    (walked-next (table s) (s .args .j) (keep s) maxTime (l .inv) e lower _ (c .larger .result) (same-chain (c .before .before .before .before .before .before .before)) (s .pre .0 .mosts (l .k - 1) i) (lowered (c .before .before .before .before))
+    (pair-is (s .args .count) (s .args .columns .now) (s .args .bound .now) (l .k - 1) (s .args .j) _ _ _ (omega (arith, l .inv .inside)) sum low (delayed (c .before .before)))
     (c .larger .ensures ∙ rw (c .before .figure7 .ensures, c .before .before .before .before .before .before .figure4 .ensures)))
 
 returns-2 : tie.Need-returns-2 Inv-loop μ-loop
