@@ -1,3 +1,4 @@
+pub mod Algorithms
 pub mod Meeting
 pub mod Differences
 pub mod Slacks

@@ -2,6 +2,7 @@
 use Prim.Native.Nat.{ℕ, _+_, _≤_, _<_}
 use mathlib.Core.Path.{_≡_, refl, sym, ap, _∙_}
 use mathlib.Core.Bool.{Bool, true, false, cond}
+use mathlib.Core.Option.{Option, none, some}
 use mathlib.Core.List.{List}
 use native.Mathlib.Omega.{arith}
 use lib.Dec.{leb}
@@ -20,9 +21,10 @@ use Rattle.jobs.specs.Checks.{checkOf}
 use Rattle.jobs.specs.Jobs.{jobsOf, jobAt}
 use Rattle.jobs.proofs.Sets.{length-jobs}
 use Rattle.theory.specs.Bounds.{meets}
-use Rattle.completion.specs.Answers.{eachJob}
+use Rattle.completion.specs.declared.answer.Bounds.{Bounds}
 use Rattle.analysis.specs.declared.answer.Verdict.{Verdict}
-use Rattle.analysis.specs.Answers.{verdictBy, verdictOf}
+use Rattle.analysis.specs.Answers.{boundsBy, onBounds, boundsOf, verdictBy, verdictOf}
+use Rattle.analysis.proofs.Algorithms.{checkBy, eachBy}
 
 -- the bound of the job at a place is at or before its deadline
 abbrev pub metAt : List Job → List ℕ → ℕ → Bool
@@ -50,14 +52,17 @@ module _ (set : JobSet) (bounds : List ℕ) where
   unfolding meets
   meets-padded = every-ext _ _ (length (jobsOf set)) (λ i l. rw (getD-padded maxJobs 0 bounds i))
 
-  -- the verdict by the bounds in an answer, which are none where the set is refused
-  on-check : (k : Check) → onPass k Verdict.Refused (verdictIs (meets (jobsOf set) (eachJob 0 k bounds))) ≡ onPass k Verdict.Refused (verdictIs (meets (jobsOf set) bounds))
-  on-check Passed = ap verdictIs meets-padded
-  on-check (Refused refusal) = refl
+-- the verdict by the bounds in an answer, which are none where it is refused
+by-answer : (set : JobSet) (k : Check) (by : Option (List ℕ))
+    → onPass (checkBy k by) Verdict.Refused (verdictIs (meets (jobsOf set) (eachBy k by))) ≡ onPass k Verdict.Refused (onBounds by Verdict.Refused (λ bounds. verdictIs (meets (jobsOf set) bounds)))
+by-answer set Passed (some bounds) = ap verdictIs (meets-padded set bounds)
+by-answer set Passed none = refl
+by-answer set (Refused refusal) by = refl
 
-  pub verdict-is : (check : Check) (each : List ℕ) (verdict : Verdict) → check ≡ checkOf (jobsOf set) → each ≡ eachJob 0 (checkOf (jobsOf set)) bounds
-      → verdict ≡ onPass check Verdict.Refused (verdictIs (meets (jobsOf set) each)) → verdict ≡ onPass (checkOf (jobsOf set)) Verdict.Refused (verdictIs (meets (jobsOf set) bounds))
-  verdict-is check each verdict c b e = e ∙ rw (c, b) (on-check (checkOf (jobsOf set)))
+pub verdict-is : (set : JobSet) (algorithm : ℕ) (answer : Bounds) (verdict : Verdict) → answer ≡ boundsOf set algorithm
+    → verdict ≡ onPass (answer .check) Verdict.Refused (verdictIs (meets (jobsOf set) (answer .bounds))) → verdict ≡ verdictOf set algorithm
+unfolding boundsOf verdictOf verdictBy
+verdict-is set algorithm answer verdict e v = rw e at v ∙ by-answer set (checkOf (jobsOf set)) (boundsBy (jobsOf set) algorithm)
 
 -- the verdict on an accepted set
 pub verdict-passed : (set : JobSet) (algorithm : ℕ) → checkOf (jobsOf set) ≡ Passed → verdictOf set algorithm ≡ verdictBy (jobsOf set) algorithm

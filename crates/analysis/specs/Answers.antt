@@ -1,9 +1,9 @@
 -- What follows from the bounds; unused places are 0. Document 01, "Bounds", the refusals of a set and of admission, and number 10. Assumes nothing.
-use Rattle.laws.specs.Words.{ℕ, cond, List, eqb, pos}
-use Rattle.jobs.specs.declared.{job.Job.Job, set.JobSet.JobSet, refusal.Refusal.Refusal}
-use Rattle.jobs.specs.{Refusals.onPass, Jobs.jobsOf, Jobs.setOf, Checks.checkOf, Joins.withChain, Joins.joinCheck}
+use Rattle.laws.specs.Words.{ℕ, cond, Option, none, some, List, [], eqb, pos}
+use Rattle.jobs.specs.declared.{job.Job.Job, set.JobSet.JobSet, refusal.Refusal.Refusal, refusal.Check.Check}
+use Rattle.jobs.specs.{Refusals.onPass, Refusals.andThen, Jobs.jobsOf, Jobs.setOf, Checks.checkOf, Joins.withChain, Joins.joinCheck}
 use Rattle.theory.specs.{Table.tableOf, Bounds.ert, Bounds.cja, Bounds.itr, Bounds.slacks, Bounds.meets}
-use Rattle.completion.specs.Answers.{eachJob, ertOf, cjaOf, itrOf}
+use Rattle.completion.specs.{declared.answer.Bounds.Bounds, Answers.eachJob, Answers.ertOf, Answers.cjaOf, Answers.itrOf}
 use Rattle.analysis.specs.declared.{answer.Slacks.Slacks, answer.Figures.Figures, answer.Verdict.Verdict, answer.Admission.Admission}
 
 -- Each job's deadline less its ITR bound.
@@ -22,14 +22,30 @@ figuresOf set =
       slacks = slacksOf set .slacks;
     }
 
--- The verdict on accepted jobs by 1 ERT, 2 CJA or 3 ITR: yes where each bound is at or before its job's deadline.
+-- The bounds of accepted jobs by 1 ERT, 2 CJA or 3 ITR, and none by another algorithm.
+unfoldable pub boundsBy : List Job → ℕ → Option (List ℕ)
+boundsBy js algorithm =
+    cond (eqb algorithm 1) (some (ert (tableOf js)))
+    (cond (eqb algorithm 2) (some (cja (tableOf js)))
+    (cond (eqb algorithm 3) (some (itr (tableOf js) .bounds))
+    none))
+
+-- What is made of the bounds by an algorithm, or of number 10 where it has none.
+abbrev pub onBounds : {A : Type 0} → Option (List ℕ) → (Refusal → A) → (List ℕ → A) → A
+onBounds none otherwise answer = otherwise Refusal.UnknownAlgorithm
+onBounds (some bounds) otherwise answer = answer bounds
+
+-- The bounds of a set by an algorithm; its own refusals come first, then 10.
+unfoldable pub boundsOf : JobSet → ℕ → Bounds
+boundsOf set algorithm =
+    let js = jobsOf set in
+    let by = boundsBy js algorithm in
+    let check = andThen (checkOf js) (onBounds by Check.Refused (λ bounds. Check.Passed)) in
+    record { check = check; bounds = eachJob 0 check (onBounds by (λ refusal. []) (λ bounds. bounds)) }
+
+-- The verdict on accepted jobs by an algorithm: yes where each bound is at or before its job's deadline.
 unfoldable pub verdictBy : List Job → ℕ → Verdict
-verdictBy js algorithm =
-    let by : List ℕ → Verdict = λ bounds. cond (meets js bounds) Verdict.Yes Verdict.No in
-    cond (eqb algorithm 1) (by (ert (tableOf js)))
-    (cond (eqb algorithm 2) (by (cja (tableOf js)))
-    (cond (eqb algorithm 3) (by (itr (tableOf js) .bounds))
-    (Verdict.Refused Refusal.UnknownAlgorithm)))
+verdictBy js algorithm = onBounds (boundsBy js algorithm) Verdict.Refused (λ bounds. cond (meets js bounds) Verdict.Yes Verdict.No)
 
 -- The verdict on a set; its own refusals come first.
 unfoldable pub verdictOf : JobSet → ℕ → Verdict

@@ -4,17 +4,13 @@ ghost use Rattle.jobs.specs.{Refusals.onPass, Jobs.jobsOf, Checks.checkOf};
 ghost use Rattle.theory.specs.Bounds.{meets};
 ghost use Rattle.analysis.specs.Answers.{verdictOf};
 use crate::answer::Verdict;
-use completion::cja::cja;
-use completion::ert::ert;
-use completion::itr::itr;
-use jobs::check::check;
+use crate::bounds::bounds;
 use jobs::refusal::Check;
-use jobs::refusal::Refusal;
 use jobs::set::JobSet;
 
-// The verdict by the bounds of a set, or the refusal of the set: yes where each job has its bound at or before its deadline.
+// The verdict by bounds of a set, or what refused them: yes where each job has its bound at or before its deadline.
 fn verdict_by(set: JobSet, check: Check, bounds: [u64; JobSet::MAX_JOBS]) -> Verdict
-    requires { ⌜ check ≡ checkOf (jobsOf set) ⌝ }
+    requires { ⌜ (check ≡ Check.Passed → checkOf (jobsOf set) ≡ Check.Passed) ⌝ }
     ensures { λ r. ⌜ r ≡ onPass check Verdict.Refused (cond (meets (jobsOf set) bounds) Verdict.Yes Verdict.No) ⌝ }
 {
     if let Check::Refused(refusal) = check {
@@ -33,29 +29,11 @@ fn verdict_by(set: JobSet, check: Check, bounds: [u64; JobSet::MAX_JOBS]) -> Ver
 }
 
 // The verdict on a set by 1 ERT, 2 CJA or 3 ITR: its own refusals first, then 10 for another algorithm.
-pub fn verdict(set: JobSet, algorithm: u8) -> Verdict
+pub fn verdict(set: JobSet, algorithm: u64) -> Verdict
     ensures { λ r. ⌜ r ≡ verdictOf set algorithm ⌝ }
 {
-    if algorithm == 1 {
-        let answer = ert(set);
-        let passed = answer.check;
-        let bounds = answer.bounds;
-        return verdict_by(set, passed, bounds);
-    }
-    if algorithm == 2 {
-        let answer = cja(set);
-        let passed = answer.check;
-        let bounds = answer.bounds;
-        return verdict_by(set, passed, bounds);
-    }
-    if algorithm == 3 {
-        let answer = itr(set);
-        let passed = answer.check;
-        let bounds = answer.bounds;
-        return verdict_by(set, passed, bounds);
-    }
-    if let Check::Refused(refusal) = check(set) {
-        return Verdict::Refused(refusal);
-    }
-    Verdict::Refused(Refusal::UnknownAlgorithm)
+    let answer = bounds(set, algorithm);
+    let passed = answer.check;
+    let each = answer.bounds;
+    verdict_by(set, passed, each)
 }

@@ -12,16 +12,12 @@ use borrow.Author.Tests.{le-leb, lt-leb, leb-true, leb-false}
 use Rattle.laws.specs.Words.{patched, written, writtenLength}
 use Rattle.laws.proofs.Tests.{by-test}
 use Rattle.laws.proofs.Lists.{rest-is}
-use Rattle.laws.proofs.Buffers.{put-rest, Wrote, wrote-more}
+use Rattle.laws.proofs.Buffers.{put-rest, Wrote, wrote-more, written-patched, written-short}
 
 -- a text that fits, and one that does not
 pub written-fits : (text b : List ℕ) → length text ≤ length b → written text b ≡ text ++ drop (length text) b
-unfolding written patched
-written-fits text b h = rw (le-leb (length text) (length b) h, zero-add)
-
-pub written-short : (text b : List ℕ) → length b < length text → written text b ≡ b
-unfolding written
-written-short text b h = rw (lt-leb (length text) (length b) h)
+unfolding patched
+written-fits text b h = rw (written-patched text b h, zero-add)
 
 pub length-fits : (text b : List ℕ) → length text ≤ length b → writtenLength text b ≡ length text
 unfolding writtenLength

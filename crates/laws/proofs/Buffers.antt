@@ -9,7 +9,8 @@ use native.Mathlib.Nat.{add-assoc, add-zero}
 use lib.ListN.{length, take, drop, set, length-append, length-drop, take-append-drop}
 use lib.Seq.{set-split, take-at, drop-drop, drop-length, drop-append-add, length-take-le}
 use borrow.Rule.Slice.PartMut.{putMid, postOf, post-is}
-use Rattle.laws.specs.Words.{patched}
+use borrow.Author.Tests.{le-leb, lt-leb}
+use Rattle.laws.specs.Words.{patched, written}
 use Rattle.laws.proofs.Lists.{rest-is}
 
 -- a text at the start of the rest of a buffer, in the whole; `putMid` is how the borrow checker puts a lent part back
@@ -83,3 +84,12 @@ set-patched b at x h = set-split b at x h ∙ simp (append-assoc, add-one)
 
 pub wrote-one : {A : Type 0} {before between text : List A} (x : A) {start at : ℕ} → Wrote before start text between at → at < length between → Wrote before start (text ++ (x ∷ [])) (set between at x) (at + 1)
 wrote-one {between = between} x {at = at} w h = wrote-more (x ∷ []) w (refl, set-patched between at x h)
+
+-- ---- a text at the start of a buffer that has room for it, and one that has not
+pub written-patched : (text b : List ℕ) → length text ≤ length b → written text b ≡ patched b 0 text
+unfolding written
+written-patched text b h = rw (le-leb (length text) (length b) h)
+
+pub written-short : (text b : List ℕ) → length b < length text → written text b ≡ b
+unfolding written
+written-short text b h = rw (lt-leb (length text) (length b) h)

@@ -10,3 +10,4 @@ pub mod Digits
 pub mod Filling
 pub mod Buffers
 pub mod Pieces
+pub mod Copies

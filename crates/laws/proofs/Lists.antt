@@ -1,8 +1,8 @@
 -- Lists: what owning an array of structs tells, the rest of a slice, the last element, and padding. Nothing here depends on what the
 -- elements are. Assumes nothing.
 use Prim.Native.Nat.{ℕ, zero, suc, _+_, _-_, _≤_, _<_}
-use mathlib.Core.List.{List, [], _∷_, _++_, append-assoc, map}
-use mathlib.Core.Path.{_≡_, refl, sym, _∙_}
+use mathlib.Core.List.{List, [], _∷_, _++_, append-assoc, append-nil, map}
+use mathlib.Core.Path.{_≡_, refl, sym, ap, _∙_}
 use native.Mathlib.Omega.{arith}
 use lib.ListN.{length, length-append, length-map, length-drop, length-replicate, take, drop, getD, set, replicate}
 use lib.Seq.{take-all, set-append-seam}
@@ -25,6 +25,12 @@ last-snoc (y ∷ xs) d x = last-snoc xs y x
 module _ {A : Type 0} (m : ℕ) (d : A) where
   pub length-padded : (xs : List A) → length xs ≤ m → length (padded m d xs) ≡ m
   length-padded xs h = length-append xs (replicate (m - length xs) d) ∙ omega (arith, length-replicate (m - length xs) d)
+
+  -- a list of all places is not padded
+  pub padded-full : (xs : List A) → length xs ≡ m → padded m d xs ≡ xs
+  padded-full xs e =
+      let none : m - length xs ≡ 0 = omega arith in
+      ap (λ (n : ℕ). xs ++ replicate n d) none ∙ append-nil xs
 
   -- one element more takes the place of the first that pads
   pub padded-snoc : (xs : List A) (x : A) → length xs < m → set (padded m d xs) (length xs) x ≡ padded m d (xs ++ (x ∷ []))

@@ -1,7 +1,6 @@
 pub mod Lines
 pub mod ColumnTexts
 pub mod ColumnWrites
-pub mod Bytes
 pub mod Wholes
 pub mod RefusedText
 pub mod RowTexts

@@ -1,7 +1,7 @@
--- `verdict_by` answers the set's refusal, or the verdict by its bounds. The loop's invariant: the first i jobs have their bounds at or before their deadlines.
+-- `verdict_by` answers what refused the bounds, or the verdict by them. The loop's invariant: the first i jobs have their bounds at or before their deadlines.
 -- Assumes nothing.
 use Prim.Native.Nat.{_-_, _≤_}
-use mathlib.Core.Path.{_≡_, sym, ap, _∙_}
+use mathlib.Core.Path.{_≡_, ap}
 use mathlib.Core.Bool.{true}
 use native.Mathlib.Omega.{arith}
 use borrow.Author.Needs.{needs}
@@ -34,7 +34,7 @@ enum-told c = search needs
 loop-holds : tie.Need-loop-holds Inv-loop μ-loop
 loop-holds c =
     let s = c .before .before .args .t1 in
-    let ok = accepted (jobsOf s) (sym (c .before .before .pre) ∙ c .enum-told .given .1) in
+    let ok = accepted (jobsOf s) (c .before .before .pre (c .enum-told .given .1)) in
     (omega (arith, length-jobs s, ok .few), omega arith, every-none _)
 
 mul-job : tie.Need-mul-job Inv-loop μ-loop

@@ -6,7 +6,7 @@ use native.Mathlib.Omega.{arith}
 use lib.ListN.{length, length-append}
 use borrow.Author.Needs.{needs}
 use Rattle.laws.proofs.Buffers.{Wrote, wrote-none, wrote-more, wrote-room, wrote-length}
-use Rattle.decimal.proofs.Writing.{written-short}
+use Rattle.laws.proofs.Buffers.{written-short}
 use Rattle.report.specs.Texts.{boundsHeader}
 use Rattle.report.proofs.Wholes.{wrote-whole}
 use Rattle.report.proofs.TextAnswers.{answer-short, answer-fits, figureRows}

@@ -3,27 +3,27 @@ use Prim.Native.Nat.{_-_}
 use lib.ListN.{length}
 use borrow.Author.Needs.{needs}
 use Rattle.laws.proofs.Pieces.{pieces-same}
-use Rattle.report.proofs.Bytes.{BytesWritten, bytes-none, bytes-next, bytes-room, bytes-end}
+use Rattle.laws.proofs.Copies.{Copied, copied-none, copied-next, copied-room, copied-end}
 use Rattle.report.proofs.columns.write_bytes.Statement.{statement}
 use Rattle.report.proofs.columns.write_bytes.Tie as tie
 
 abbrev Inv-loop : tie.InvT-loop
-Inv-loop bytes out₀ at i₀ out i = BytesWritten bytes out₀ at out i
+Inv-loop bytes out₀ at i₀ out i = Copied bytes out₀ at out i
 
 abbrev μ-loop : tie.MeasureT-loop
 μ-loop bytes out₀ at i₀ out i = length bytes - i
 
 loop-holds : tie.Need-loop-holds Inv-loop μ-loop
-loop-holds c = bytes-none _ _ _ (c .pre)
+loop-holds c = copied-none _ _ _ (c .pre)
 
 shared-slice-read-out : tie.Need-shared-slice-read-out Inv-loop μ-loop
 shared-slice-read-out c = search needs
 
 add-out : tie.Need-add-out Inv-loop μ-loop
-add-out c = let h = bytes-room (c .before .before .loop .inv) (c .before .loop-test .taken) in search (needs, h)
+add-out c = let h = copied-room (c .before .before .loop .inv) (c .before .loop-test .taken) in search (needs, h)
 
 slice-write-out : tie.Need-slice-write-out Inv-loop μ-loop
-slice-write-out c = bytes-room (c .before .before .loop .inv) (c .before .loop-test .taken)
+slice-write-out c = copied-room (c .before .before .loop .inv) (c .before .loop-test .taken)
 
 add-i : tie.Need-add-i Inv-loop μ-loop
 add-i c = search needs
@@ -32,7 +32,7 @@ loop-less : tie.Need-loop-less Inv-loop μ-loop
 loop-less c = search needs
 
 loop-again : tie.Need-loop-again Inv-loop μ-loop
-loop-again c = bytes-next (c .before .before .loop .inv) (c .before .loop-test .taken)
+loop-again c = copied-next (c .before .before .loop .inv) (c .before .loop-test .taken)
 
 add-result : tie.Need-add-result Inv-loop μ-loop
 add-result c = search needs
@@ -41,7 +41,7 @@ same-length : tie.Need-same-length Inv-loop μ-loop
 same-length c = let h = pieces-same (c .before .loop .inv) in search (needs, h)
 
 returns : tie.Need-returns Inv-loop μ-loop
-returns c = bytes-end (c .before .loop .inv) (c .loop-test .left)
+returns c = copied-end (c .before .loop .inv) (c .loop-test .left)
 
 pub write-bytes-spec : {M : Type 1} → statement M
 write-bytes-spec =

@@ -1,0 +1,4 @@
+// Sets, states and figures as numbers in memory that the caller lends.
+pub mod put;
+pub mod set;
+pub mod state;
