@@ -1,1 +1,5 @@
 pub mod Negation
+pub mod Bounding
+pub mod Admitting
+pub mod Ticking
+pub mod Running

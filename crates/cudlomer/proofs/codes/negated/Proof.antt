@@ -6,8 +6,8 @@ use mir.Val.{SFits}
 use mir.Facts.{toZ-pos, toZ-ofZ}
 use borrow.Author.Needs.{needs}
 use Rattle.cudlomer.proofs.Negation.{neg-fits}
-use Rattle.cudlomer.proofs.negated.Statement.{statement}
-use Rattle.cudlomer.proofs.negated.Tie as tie
+use Rattle.cudlomer.proofs.codes.negated.Statement.{statement}
+use Rattle.cudlomer.proofs.codes.negated.Tie as tie
 
 number-requires : tie.Need-number-requires
 number-requires c κs = search needs

@@ -1,12 +1,12 @@
--- `code_of` answers `writtenCode`. Assumes nothing.
+-- `written_code` answers `writtenCode`. Assumes nothing.
 use mathlib.Core.Path.{sym, ap, _∙_}
 use native.Mathlib.Omega.{arith}
 use mir.Syntax.{w64}
 use mir.Facts.{toZ-pos, toZ-ofZ}
 use borrow.Author.Needs.{needs}
 use Rattle.cudlomer.specs.Codes.{writtenCode}
-use Rattle.cudlomer.proofs.code_of.Statement.{statement}
-use Rattle.cudlomer.proofs.code_of.Tie as tie
+use Rattle.cudlomer.proofs.codes.written_code.Statement.{statement}
+use Rattle.cudlomer.proofs.codes.written_code.Tie as tie
 
 enum-known-answer : tie.Need-enum-known-answer
 enum-known-answer c = search needs
@@ -27,7 +27,7 @@ returns-2 : tie.Need-returns-2
 returns-2 c =
     toZ-ofZ {w = w64} {z = c .negated .result} (record { sfits = c .negated .ok }) ∙ c .negated .ensures ∙ ap writtenCode (sym (c .before .before .answer2 .given .1))
 
-pub code-of-spec : {M : Type 1} → statement M
-code-of-spec =
+pub written-code-spec : {M : Type 1} → statement M
+written-code-spec =
     tie.close
     (tie.spec enum-known-answer cast-result enum-known-answer-2 negated-requires returns returns-2)
