@@ -40,13 +40,15 @@ module _ {M : Type 1} (𝓤 : URA M) (H : Heap 𝓤) (A : Atoms 𝓤) (W : Given
       move ! (1 ∷ []) $ peeks ! R (Is R) (shows 𝓤 H A R) x (vals x) (λ is. drop ! $ check ! is $ done !))
 
 module _ {M : Type 1} (𝓤 : URA M) (H : Heap 𝓤) (A : Atoms 𝓤) (W : Given 𝓤 H A) (R : RattleType) (n k : ℕ) (xs : List (R .Denot)) (b : ℕ) where
-  -- the first elements, as a slice lends them, and the rest
+  -- the first elements, as a slice lends them
   abbrev pub Front : Fml
   Front = arr-parts (shares R) (length (take k xs)) .part fullShare (take k xs) b 0
 
+  -- the elements after them
   abbrev pub Rest : Fml
   Rest = cells (Sh R fullShare) (beyond k xs) b (at 0 (mem R .size) (length (take k xs)))
 
+  -- the first elements, side by side
   abbrev firsts : Fml
   firsts = cells (Sh R fullShare) (take k xs) b 0
 

@@ -11,7 +11,7 @@ use lib.ListN.{length, take}
 use native.Mathlib.Omega.{arith}
 use mir.Syntax.{imm, erased, named, tyArray, tyRef}
 use mir.Val.{Val}
-use base.Logic.{SProp, ent, sep, via, fst∗, snd∗, exE, id⊢}
+use base.Logic.{SProp, ent, snd∗, exE, id⊢}
 use base.Fml.{GName, Lft, Share, Fml, ftrue, flft, flent, fat}
 use prog.Memory.{Memory}
 use prog.Routine.{Routine}
@@ -44,7 +44,6 @@ use denote.Triple.Table.{entered, cited}
 use denote.Triple.Walked.{says, needs, Stays, stay-none, stay-none-slice, walkOf, AllGo, goes-none, goes-none-slice, Walks, ends-at, walked, walk-meets}
 use denote.Exit.{yes}
 use Rattle.jobs.specs.Limits.{maxJobs}
-use Rattle.jobs.specs.Jobs.{jobsOf}
 use Rattle.jobs.specs.declared.job.Job.{Job}
 use Rattle.jobs.specs.declared.set.JobSet.{JobSet}
 use Rattle.theory.specs.Table.{tableOf}

@@ -44,7 +44,6 @@ use Rattle.machine.specs.Ticks.{stepOf}
 use Rattle.machine.specs.declared.state.State.{State}
 use Rattle.jobs.specs.declared.set.JobSet.{JobSet}
 use Rattle.machine.specs.declared.step.Stepped.{Stepped}
-use Rattle.machine.specs.declared.step.Ticked.{Ticked}
 use Rattle.lent.proofs.Values.{state-vals, set-vals, answer-val}
 use Rattle.machine.proofs.step.step.Symbol.{name as #step}
 use Rattle.lent.proofs.tick.tick.Key.{name as #tick}

@@ -17,7 +17,7 @@ use prog.Wp.{Heap, Calls, Loops, WpFn, Tables}
 use ghost.Atoms.{Atoms, sem}
 use contract.Monad.{Fun, fact, fact-use}
 use contract.Running.{givenOf, tables, tablesOf}
-use types.Kit.{Given, ‵, ⋆, raw, _⊛_, some, given, later, _$_, _∵_, !, qed, by, move, keep, drop, use1, use2, use3, split, split3, join, pick, learn, rewrite, fsplit, fjoin, suffices, frame, await, done}
+use types.Kit.{Given, ‵, ⋆, raw, _⊛_, some, given, later, _$_, _∵_, !, qed, by, move, keep, drop, use1, use3, split, split3, join, pick, learn, rewrite, fsplit, fjoin, suffices, frame, await, done}
 use types.Tokens.{lft-new, lft-end}
 use types.Run.{look, init, forget, stop, from, load, of-opd, addr, and-then, no-more, assigns, land, returns, enter, alloc1, alloc0, params1, pass1, pass0, free1, free0}
 use types.Part.{agg}
