@@ -1,12 +1,12 @@
 // A further chain asks to come aboard.
 use crate::bounds::print_verdict;
 use crate::print::print;
-use crate::tables::print_set;
-use crate::tables::set_of;
+use crate::sets::print_set;
 use analysis::admission::admit;
 use jobs::set::JobSet;
+use kept_tables::set_of;
 
-fn print_admitted(old: JobSet, new: JobSet, algorithm: u8) {
+fn print_admitted(old: JobSet, new: JobSet, algorithm: u64) {
     let admission = admit(old, new, algorithm);
     let verdict = admission.verdict;
     print_verdict(verdict);

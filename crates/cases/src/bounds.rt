@@ -3,13 +3,13 @@ use crate::print::print;
 use crate::print::print_number;
 use crate::print::print_refused;
 use crate::print::print_signed;
-use crate::tables::set_of;
 use analysis::answer::Figures;
 use analysis::answer::Verdict;
 use analysis::figures::figures;
 use analysis::verdict::verdict;
 use jobs::refusal::Check;
 use jobs::set::JobSet;
+use kept_tables::set_of;
 
 pub(crate) fn print_verdict(verdict: Verdict) {
     print(b" ");

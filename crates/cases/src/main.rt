@@ -1,28 +1,18 @@
 // Prints one line for each case named as an argument: its name, and what the part makes of the tables kept under it.
 //   reading/NAME     what reading the file comes to
 //   bounds/NAME      rounds, verdicts by algorithm 1 to 4, and the bounds and slack of the last jobs
-//   trace/NAME       the entries of the run with all most times, and its end
-//   step/NAME        one tick with the running times and the state of the next argument, with/NAME: its answer and the state after it
-//   edge/NAME        the trace with a buffer one number short, and with one just long enough
 //   admission/NAME   what the chain of the next argument, with/NAME, comes to that asks to join, by algorithm 1 to 4
 ghost use Prim.Native.Nat.{_+_, _<_, _^_};
 
 mod admission;
 mod bounds;
-mod edges;
-mod numbers;
 mod print;
-mod steps;
-mod tables;
-mod traces;
+mod sets;
 
 use crate::admission::print_admission;
 use crate::bounds::print_bounds;
-use crate::edges::print_edge;
 use crate::print::print;
-use crate::steps::print_step;
-use crate::tables::print_reading;
-use crate::traces::print_trace;
+use crate::sets::print_reading;
 
 // The first letter of the name tells what is asked.
 fn print_case(name: &[u8], next: &[u8]) {
@@ -40,15 +30,6 @@ fn print_case(name: &[u8], next: &[u8]) {
     }
     if kind == b'b' {
         print_bounds(name);
-    }
-    if kind == b't' {
-        print_trace(name);
-    }
-    if kind == b's' {
-        print_step(name, next);
-    }
-    if kind == b'e' {
-        print_edge(name);
     }
     if kind == b'a' {
         print_admission(name, next);

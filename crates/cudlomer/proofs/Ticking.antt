@@ -111,5 +111,5 @@ unfolding stepOf tickOf machineCheck
 ran-small js times s stepped e chain job ran =
     let t = tableOf js in
     let small = small-by (machineCheck js times) (stateCheck t times s) s (tickOf js times s)
-          (λ passed. small-entry js (accepted js (then-first (checkOf js) _ passed)) (allComplete times (s .work) (t .count)) (pick t times s)) in
+    (λ passed. small-entry js (accepted js (then-first (checkOf js) _ passed)) (allComplete times (s .work) (t .count)) (pick t times s)) in
     subst Small (ap (λ (x : Stepped). x .ticked) (sym e) ∙ ran) small

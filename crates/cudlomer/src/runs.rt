@@ -11,8 +11,8 @@ use crate::codes::traced_code;
 use jobs::refusal::Check;
 use jobs::refusal::Refusal;
 use jobs::set::JobSet;
+use lent::tick::tick_kept;
 use machine::run::run;
-use machine::step::step;
 use machine::times::check_times;
 use machine::trace::trace;
 use numbers::put::put;
@@ -40,7 +40,7 @@ pub extern "C" fn cudlomer_set_tick(jobs: &[u64], times: &[u64], state: &mut [u6
     if state.len() < STATE_SIZE {
         return short_state(set, times);
     }
-    let stepped = step(state_in(state), set, times);
+    let stepped = tick_kept(state_in(state), set, times);
     let ticked = stepped.ticked;
     let after = stepped.state;
     put_state(after, state);

@@ -85,7 +85,12 @@ pub extern "C" fn cudlomer_set_rounds(jobs: &[u64]) -> i64
 
 // Admits a further chain to the first count jobs in memory: on yes it writes the chain behind them and answers how many jobs there are then, on no 0.
 #[no_mangle]
-pub extern "C" fn cudlomer_set_admit(jobs: &mut [u64], count: u64, chain: &[u64], algorithm: u64) -> i64
+pub extern "C" fn cudlomer_set_admit(
+    jobs: &mut [u64],
+    count: u64,
+    chain: &[u64],
+    algorithm: u64,
+) -> i64
     ensures { λ r. let answer = admissionHere (now (jobs .entry)) count (now (chain .entry)) algorithm in ⌜ (r ≡ admitCode (answer .verdict) (jobsOf (answer .set)) (now (jobs .entry))) × (now (jobs .exit) ≡ admitInto (answer .verdict) (jobsOf (answer .set)) count (now (jobs .entry))) ⌝ }
 {
     let held = count as usize;

@@ -1,1 +1,3 @@
+pub mod Locals
 pub mod Scanning
+pub mod Values

@@ -1,16 +1,20 @@
 -- The scan over records: what it carries from one record to the next is what the table has there. Assumes nothing.
-use Prim.Native.Nat.{ℕ, zero, suc, _+_, _-_, max, min}
-use mathlib.Core.Path.{_≡_, refl, sym, ap}
+use Prim.Native.Nat.{ℕ, zero, suc, _+_, _-_, _≤_, max, min}
+use mathlib.Core.Path.{_≡_, refl, sym, ap, _∙_}
 use mathlib.Core.Bool.{Bool, true, false, cond, _&&_, true≢false}
 use mathlib.Core.List.{List}
 use native.Mathlib.Omega.{arith}
 use native.Mathlib.Numerals.{add-one}
 use lib.Dec.{leb, ltb, eqb}
+use lib.ListN.{length, take}
+use lib.Seq.{ext-getD, getD-take, length-take-le}
 use borrow.Author.Tests.{leb-true, le-leb, lt-ltb, eqb-true, eqb-false}
 use Rattle.laws.specs.Words.{numberAt}
 use Rattle.laws.proofs.Tests.{by-test, same-test, and-left, and-right, and-both}
 use Rattle.jobs.specs.declared.job.Job.{Job}
-use Rattle.jobs.specs.Jobs.{jobAt, urgencyOf}
+use Rattle.jobs.specs.declared.set.JobSet.{JobSet}
+use Rattle.jobs.specs.Jobs.{noJob, jobAt, jobsOf, urgencyOf}
+use Rattle.jobs.proofs.Sets.{length-jobs, job-at}
 use Rattle.theory.specs.Table.{Table, joined, tableOf, effectiveRelease}
 use Rattle.theory.proofs.Given.{given}
 use Rattle.theory.specs.Runs.{complete, predecessorComplete, ready}
@@ -154,3 +158,19 @@ module _ (js : List Job) (times : List ℕ) (s : State) {scan : Scan} {job : Job
 
   pub best-unready : readyIn (tableOf js) times s u ≡ false → scan .best ≡ bestUpTo (tableOf js) times s (suc u)
   best-unready r = rw r at best-next
+
+-- ---- the records of a set that counts no more than its places
+module _ (set : JobSet) (few : set .count ≤ length (set .jobs)) where
+  pub length-counted : length (take (set .count) (set .jobs)) ≡ set .count
+  length-counted = length-take-le (set .count) (set .jobs) few
+
+  pub counted-jobs : take (set .count) (set .jobs) ≡ jobsOf set
+  counted-jobs =
+      ext-getD noJob (take (set .count) (set .jobs)) (jobsOf set) (length-counted ∙ sym (length-jobs set))
+      (λ i l. getD-take (set .count) (set .jobs) i noJob (omega (arith, length-counted)) ∙ sym (job-at set i (omega (arith, length-counted))))
+
+  pub best-counted : (times : List ℕ) (s : State)
+      → bestUpTo (tableOf (take (set .count) (set .jobs))) times s (length (take (set .count) (set .jobs))) ≡ bestUpTo (tableOf (jobsOf set)) times s (set .count)
+  best-counted times s =
+      ap (λ (js : List Job). bestUpTo (tableOf js) times s (length js)) counted-jobs
+      ∙ ap (λ (n : ℕ). bestUpTo (tableOf (jobsOf set)) times s n) (length-jobs set)

@@ -1,11 +1,12 @@
 // The scan over lent job records, which changes none.
 // What is promised of one record holds for any jobs js, where the scan is of those before the place `at` and the record is the one there.
-ghost use Rattle.laws.specs.Words.{_≡_, ℕ, suc, _-_, _&&_, List, length, getD, leb, ltb, eqb};
-ghost use Rattle.jobs.specs.Jobs.{jobAt};
+ghost use Rattle.laws.specs.Words.{_≡_, ℕ, suc, _-_, _≤_, cond, _&&_, List, length, getD, leb, ltb, eqb};
+ghost use Rattle.jobs.specs.{Limits.maxJobs, Jobs.jobAt, Jobs.jobsOf};
 ghost use Rattle.theory.specs.Table.{tableOf};
 ghost use Rattle.machine.specs.{Ticks.readyIn, Ticks.bestUpTo};
 ghost use Rattle.machine.proofs.Scanned.{scanned};
 use jobs::job::Job;
+use jobs::set::JobSet;
 use machine::pick::Best;
 use machine::pick::better_of;
 use machine::state::State;
@@ -139,4 +140,29 @@ pub fn most_urgent(jobs: &[Job], times: &[u64], state: State) -> Best
         i += 1;
     }
     scan.best
+}
+
+// The most urgent ready job of the records that a set counts, which are lent.
+fn most_urgent_counted(set: JobSet, times: &[u64], state: State) -> Best
+    requires { ⌜ set .count ≤ maxJobs ⌝ }
+    ensures { λ r. ⌜ r ≡ bestUpTo (tableOf (jobsOf set)) (now (times .entry)) state (set .count) ⌝ }
+{
+    let jobs = set.jobs;
+    let count = set.count;
+    most_urgent(&jobs[..count], times, state)
+}
+
+// The most urgent ready job of a set, by the scan over its records; none of a set that counts more records than it has places.
+pub fn most_urgent_of(set: JobSet, times: &[u64], state: State) -> Best
+    ensures { λ r. ⌜ r ≡ bestUpTo (tableOf (jobsOf set)) (now (times .entry)) state (cond (leb (set .count) maxJobs) (set .count) 0) ⌝ }
+{
+    if set.count <= JobSet::MAX_JOBS {
+        return most_urgent_counted(set, times, state);
+    }
+    Best {
+        found: false,
+        at: 0,
+        urgency: 0,
+        chain: 0,
+    }
 }

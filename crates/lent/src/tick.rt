@@ -4,6 +4,7 @@ ghost use Rattle.jobs.specs.Jobs.{jobsOf};
 ghost use Rattle.machine.specs.Ticks.{stepOf};
 use jobs::set::JobSet;
 use machine::state::State;
+use machine::step::Stepped;
 use machine::step::Ticked;
 use machine::step::step;
 
@@ -15,4 +16,16 @@ pub fn tick(state: &mut State, set: JobSet, times: &[u64]) -> Ticked
     let stepped = step(old, set, times);
     *state = stepped.state;
     stepped.ticked
+}
+
+// One tick on a state by value, through the form by reference.
+pub fn tick_kept(state: State, set: JobSet, times: &[u64]) -> Stepped
+    ensures { λ r. ⌜ r ≡ stepOf (jobsOf set) (now (times .entry)) state ⌝ }
+{
+    let mut kept = state;
+    let ticked = tick(&mut kept, set, times);
+    Stepped {
+        ticked,
+        state: kept,
+    }
 }

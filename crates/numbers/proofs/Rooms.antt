@@ -57,6 +57,7 @@ module _ (s : State) (memory : List ℕ) (full : length (s .work) ≡ maxJobs) w
 
   pub state-fits : (between after : List ℕ) (next : ℕ) → stateSize ≤ length memory → (next ≡ 1) × (between ≡ patched memory 0 (s .time ∷ [])) → after ≡ patched between next (s .work)
       → (Passed ≡ roomCheck stateSize memory) × (after ≡ written (stateNumbers s) memory)
-  state-fits between after next h first e =
-      (room-passes stateSize memory h,
-      rw (first .0, first .1) at e ∙ patched-more memory 0 (s .time ∷ []) (s .work) (omega arith) ∙ sym (written-patched (stateNumbers s) memory (omega (arith, full))))
+  state-fits between after next h first e = (
+    room-passes stateSize memory h,
+    rw (first .0, first .1) at e ∙ patched-more memory 0 (s .time ∷ []) (s .work) (omega arith) ∙ sym (written-patched (stateNumbers s) memory (omega (arith, full))),
+  )

@@ -47,7 +47,7 @@ module _ (set : JobSet) (from : ℕ) where
       let js = drop from (jobsOf set) in
       let nothing : from - from ≡ 0 = omega arith in
       let room : jobSize * from + length (numbersOf (take (length js) js)) ≤ length before =
-            rw (take-length js) (omega (arith, length-numbers js, length-rest, h .0, h .1)) in
+      rw (take-length js) (omega (arith, length-numbers js, length-rest, h .0, h .1)) in
       record { begun = omega arith; inside = h .1; pieces = rw nothing (pieces-none (jobs-made js) before (jobSize * from) room) }
 
   module _ {before out : List ℕ} {at n : ℕ} (h : JobsPut set from before out at n) where

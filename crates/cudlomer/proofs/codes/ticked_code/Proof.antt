@@ -35,8 +35,8 @@ negated-requires : tie.Need-negated-requires
 negated-requires c κs = search needs
 
 returns : tie.Need-returns
-returns c = 
-    let small = c .before .before .before .pre _ _ (c .before .ticked .given .1) in 
+returns c =
+    let small = c .before .before .before .pre _ _ (c .before .ticked .given .1) in
     toZ-pos w64 {n = c .before .ticked .given .0 .0 * chainStep + c .before .ticked .given .0 .1 .0} (omega (arith, small .0, small .1)) ∙ ap tickedCode (sym (c .before .ticked .given .1))
 
 returns-2 : tie.Need-returns-2

@@ -22,7 +22,7 @@ negated-requires : tie.Need-negated-requires
 negated-requires c κs = search needs
 
 returns : tie.Need-returns
-returns c = 
+returns c =
     let refused = run-refused _ _ _ (c .before .before .before .before .run .ensures) _ _ (c .before .before .check .given .1) in
     rw (← c .before .before .before .before .before .held-set .ensures) (handed-on (record { sfits = c .negated .ok }) (c .negated .ensures) ∙ refused .0, refused .1)
 
@@ -45,7 +45,7 @@ same-length : tie.Need-same-length
 same-length c = search needs
 
 returns-2 : tie.Need-returns-2
-returns-2 c = 
+returns-2 c =
     let s = c .before .before .before .before .before .before .before .before .before .before .held-set in
     let done = run-done _ _ _ (c .before .before .before .before .before .before .before .before .before .run .ensures) (c .before .before .before .before .before .before .before .enum-told .given .1) _ _ _ _ (sym (length-jobs (s .result))) (c .before .before .before .put .ensures) in
     rw (← s .ensures) (handed-on (record { sfits = c .checked-code .ok }) (c .checked-code .ensures) ∙ done .0, done .1)

@@ -20,7 +20,7 @@ same-length : tie.Need-same-length
 same-length c = search needs
 
 returns : tie.Need-returns
-returns c = 
+returns c =
     let traced = c .before .before .before .trace .ensures in
     rw (← c .before .before .before .before .before .held-set .ensures) (handed-on (record { sfits = c .traced-code .ok }) (c .traced-code .ensures) ∙ ap tracedCode (traced .0), traced .1)
 

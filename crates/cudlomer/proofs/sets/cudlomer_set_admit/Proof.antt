@@ -34,7 +34,7 @@ same-length : tie.Need-same-length
 same-length c = search needs
 
 returns : tie.Need-returns
-returns c = 
+returns c =
     let put = c .before .before .put-set in
     rw (← c .before .before .before .before .before .before .before .before .set-in .ensures, ← c .before .before .before .before .before .before .before .held-set .ensures, ← c .before .before .before .before .before .before .admit .ensures, c .before .before .before .before .enum-told .given .1) (handed-on (record { sfits = put .ok }) (put .ensures .0), put .ensures .1)
 

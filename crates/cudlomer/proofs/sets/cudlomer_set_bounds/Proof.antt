@@ -21,7 +21,7 @@ negated-requires : tie.Need-negated-requires
 negated-requires c κs = search needs
 
 returns : tie.Need-returns
-returns c = 
+returns c =
     let held = c .before .before .before .before .before .held-set .ensures in
     let refused = bounds-refused _ _ _ (c .before .before .before .before .bounds .ensures) _ _ (c .before .before .check .given .1) in
     rw (← held) (handed-on (record { sfits = c .negated .ok }) (c .negated .ensures) ∙ refused .0, refused .1)
@@ -45,7 +45,7 @@ same-length : tie.Need-same-length
 same-length c = search needs
 
 returns-2 : tie.Need-returns-2
-returns-2 c = 
+returns-2 c =
     let held = c .before .before .before .before .before .before .before .before .before .before .held-set .ensures in
     let done = bounds-done _ _ _ (c .before .before .before .before .before .before .before .before .before .bounds .ensures) (c .before .before .before .before .before .before .before .enum-told .given .1) _ _ _ (c .before .before .before .put .ensures) in
     rw (← held) (handed-on (record { sfits = c .checked-code .ok }) (c .checked-code .ensures) ∙ done .0, done .1)

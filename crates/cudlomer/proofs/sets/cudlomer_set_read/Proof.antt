@@ -28,7 +28,7 @@ enum-told : tie.Need-enum-told
 enum-told c = search needs
 
 put-set-requires : tie.Need-put-set-requires
-put-set-requires c κs = 
+put-set-requires c κs =
     let s = c .before .before .before .read .result .set in
     omega (arith, length-jobs s, accepted (jobsOf s) (read-passed _ (c .before .before .before .read .ensures) (c .before .enum-told .given .1)) .few)
 
@@ -37,7 +37,7 @@ same-length c = search needs
 
 returns-2 : tie.Need-returns-2
 unfolding readCode readInto
-returns-2 c = 
+returns-2 c =
     let is = c .before .before .before .before .before .before .read .ensures in
     let put = c .before .before .put-set in
     rw (read-check is (c .before .before .before .before .enum-told .given .1), ← read-jobs is) (handed-on (record { sfits = put .ok }) (put .ensures .0), put .ensures .1)

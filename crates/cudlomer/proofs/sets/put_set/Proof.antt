@@ -18,7 +18,7 @@ same-length : tie.Need-same-length
 same-length c = search needs
 
 returns : tie.Need-returns
-returns c = 
+returns c =
     let put = c .before .before .before .put-jobs .ensures in
     (handed-on (record { sfits = c .checked-code .ok }) (c .checked-code .ensures) ∙ ap₂ checkedCode (put .0) (sym (length-jobs (c .before .before .before .before .before .before .args .set))), put .1)
 

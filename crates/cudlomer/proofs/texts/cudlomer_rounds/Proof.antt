@@ -29,7 +29,7 @@ rounds-of-requires c κs = search needs
 
 returns-2 : tie.Need-returns-2
 unfolding roundsOfTable roundsCode
-returns-2 c = 
+returns-2 c =
     let is = c .before .before .before .read .ensures in
     let told = c .before .enum-told .given .1 in
     rw (read-check is told, ← read-jobs is) (handed-on (record { sfits = c .rounds-of .ok }) (c .rounds-of .ensures) ∙ rw (read-passed _ is told))

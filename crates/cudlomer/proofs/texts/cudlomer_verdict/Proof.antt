@@ -33,7 +33,7 @@ verdict-code-requires c κs = search needs
 
 returns-2 : tie.Need-returns-2
 unfolding verdictOfTable
-returns-2 c = 
+returns-2 c =
     let is = c .before .before .before .before .read .ensures in
     let told = c .before .before .enum-told .given .1 in
     rw (read-check is told, ← read-jobs is) (handed-on (record { sfits = c .verdict-code .ok }) (c .verdict-code .ensures) ∙ ap verdictCode (c .before .verdict .ensures ∙ verdict-passed _ _ (read-passed _ is told)))

@@ -57,6 +57,7 @@ use Rattle.machine.specs.declared.pick.Best.{Best}
 use Rattle.machine.specs.Ticks.{bestUpTo}
 use Rattle.machine.proofs.Scanned.{scanned}
 use Rattle.lent.proofs.Scanning.{figuresOf, scanFrom, scanOf, best-so-far}
+use Rattle.lent.proofs.Values.{state-vals, job-vals, best-val}
 use Rattle.lent.proofs.scan.look_at.Symbol.{name as #look-at}
 use Rattle.lent.proofs.scan.most_urgent.Key.{name as #most-urgent}
 use denote.Struct.Laws as LL
@@ -83,18 +84,9 @@ stayed = (stay-none-slice (0 ∷ []) tt (plain (λ _. J.the-row)) yes, (stay-non
 abbrev job-bytes : ℕ
 job-bytes = size J′.mir
 
--- machine values
-abbrev job-vals : Job → List Val
-job-vals = LL.vals J.the-type J′.the-laws
-
-abbrev state-vals : State → List Val
-state-vals = LL.vals S.the-type S′.the-laws
-
+-- the machine value of a scan
 abbrev scan-val : Scan → Val
 scan-val = LL.val B.the-type B′.the-laws
-
-abbrev best-val : Best → Val
-best-val = LL.val P.the-type P′.the-laws
 
 -- what lies in a cell tells the relation of a `Best` and of a `Scan`
 best-is : (r : Best) → WT (best-val r) → Is P.the-row r (best-val r ∷ [])

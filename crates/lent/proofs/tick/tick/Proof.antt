@@ -44,7 +44,7 @@ use Rattle.machine.specs.Ticks.{stepOf}
 use Rattle.machine.specs.declared.state.State.{State}
 use Rattle.jobs.specs.declared.set.JobSet.{JobSet}
 use Rattle.machine.specs.declared.step.Stepped.{Stepped}
-use Rattle.machine.specs.declared.step.Ticked.{Ticked}
+use Rattle.lent.proofs.Values.{state-vals, set-vals, answer-val}
 use Rattle.machine.proofs.step.step.Symbol.{name as #step}
 use Rattle.lent.proofs.tick.tick.Key.{name as #tick}
 use denote.Struct.Laws as LL
@@ -66,15 +66,6 @@ use Rattle.lent.proofs.tick.tick.Code as code
 
 abbrev stayed : Stays (tick.ended .signature .params) (tick.ended .kept)
 stayed = (stay-ref (0 ∷ []) tt (plain (λ _. S.the-row)), (stay-none (λ _. D.the-row) yes, (stay-none-slice (1 ∷ []) tt (plain (λ _. u64)) yes, tt)))
-
-abbrev state-vals : State → List Val
-state-vals = LL.vals S.the-type S′.the-laws
-
-abbrev set-vals : JobSet → List Val
-set-vals = LL.vals D.the-type D′.the-laws
-
-abbrev answer-val : Ticked → Val
-answer-val a = only (EL.vals K.the-type K′.the-laws a)
 
 module _ {M : Type 1} (𝓤 : URA M) (H : Heap 𝓤) (A : Atoms 𝓤) (mem : Memory → SProp 𝓤) (run : Routine → Fun 𝓤) where
   -- the contract that the proof cites

@@ -1,0 +1,42 @@
+-- `print_trace` lends as many times as the set has jobs. Assumes nothing.
+use borrow.Author.Needs.{needs}
+use Rattle.kept_tables.proofs.Lending.{length-lent}
+use Rattle.trace_cases.proofs.traces.print_trace.Statement.{statement}
+use Rattle.trace_cases.proofs.traces.print_trace.Tie as tie
+
+set-of-requires : tie.Need-set-of-requires
+set-of-requires c κs = search needs
+
+most-times-requires : tie.Need-most-times-requires
+most-times-requires c κs = search needs
+
+array-share-prefix-times : tie.Need-array-share-prefix-times
+array-share-prefix-times c = search needs
+
+slice-aggregate-print-run : tie.Need-slice-aggregate-print-run
+slice-aggregate-print-run c = length-lent (c .before .before .most-times .result) (c .before .before .most-times .ensures) (c .before .if1 .taken)
+
+slice-aggregate-print-run-2 : tie.Need-slice-aggregate-print-run-2
+slice-aggregate-print-run-2 c = search needs
+
+print-run-requires : tie.Need-print-run-requires
+print-run-requires c κs = search needs
+
+returns : tie.Need-returns
+returns c = search needs
+
+returns-2 : tie.Need-returns-2
+returns-2 c = search needs
+
+pub print-trace-spec : {M : Type 1} → statement M
+print-trace-spec =
+    tie.close
+    (tie.spec
+    set-of-requires
+    most-times-requires
+    array-share-prefix-times
+    slice-aggregate-print-run
+    slice-aggregate-print-run-2
+    print-run-requires
+    returns
+    returns-2)

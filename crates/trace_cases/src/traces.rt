@@ -1,0 +1,75 @@
+// Runs with all most times: the trace, and the end.
+ghost use mathlib.Core.Path.{_≡_};
+ghost use lib.ListN.{length};
+ghost use Rattle.jobs.specs.Limits.{maxJobs};
+use crate::print::print;
+use crate::print::print_column;
+use crate::print::print_number;
+use crate::print::print_refused;
+use jobs::set::JobSet;
+use kept_tables::set_of;
+use machine::run::run;
+use machine::trace::Traced;
+use machine::trace::trace;
+
+// The numbers of the longest trace.
+pub(crate) const MAX_NUMBERS: usize = 8 * JobSet::MAX_JOBS;
+
+// The most time of each job; lending the array needs its length.
+pub(crate) fn most_times(set: JobSet) -> [u64; JobSet::MAX_JOBS]
+    ensures { λ r. ⌜ maxJobs ≡ length r ⌝ }
+{
+    let mut times = [0u64; JobSet::MAX_JOBS];
+    let mut i: usize = 0;
+    while i < JobSet::MAX_JOBS {
+        let job = set.jobs[i];
+        times[i] = job.most;
+        i += 1;
+    }
+    times
+}
+
+// One entry: chain, job, from, to.
+fn print_entry(numbers: &[u64], entry: usize) {
+    if entry < numbers.len() / 4 {
+        let at = 4 * entry;
+        print(b" ");
+        print_number(numbers[at]);
+        print_column(numbers[at + 1]);
+        print_column(numbers[at + 2]);
+        print_column(numbers[at + 3]);
+    }
+}
+
+fn print_entries(numbers: &[u64], count: usize) {
+    let mut entry: usize = 0;
+    while entry < count {
+        print_entry(numbers, entry);
+        entry += 1;
+    }
+}
+
+fn print_run(set: JobSet, times: &[u64], numbers: &mut [u64]) {
+    match trace(set, times, numbers) {
+        Traced::Refused(refusal) => {
+            print(b" ");
+            print_refused(refusal);
+        }
+        Traced::Entries(count) => {
+            print_entries(numbers, count);
+            let completed = run(set, times);
+            print(b", end ");
+            print_number(completed.end);
+        }
+    }
+}
+
+pub(crate) fn print_trace(name: &[u8]) {
+    let set = set_of(name);
+    let times = most_times(set);
+    let mut numbers = [0u64; MAX_NUMBERS];
+    let count = set.count;
+    if count <= JobSet::MAX_JOBS {
+        print_run(set, &times[..count], &mut numbers);
+    }
+}
