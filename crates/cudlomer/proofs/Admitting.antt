@@ -30,9 +30,9 @@ setBy verdict old joined = elim verdict [ Verdict.Yes ↦ joined | Verdict.No �
 
 pub admitted-few : (old new : JobSet) (algorithm : ℕ) (answer : Admission) → answer ≡ admissionOf old new algorithm → answer .verdict ≡ Verdict.Yes → answer .set .count ≤ maxJobs
 unfolding admissionOf joinCheck
-admitted-few old new algorithm answer e yes =
+admitted-few old new algorithm answer e said-yes =
     let joined = withChain (jobsOf old) (jobsOf new) in
-    let said = ap (λ (a : Admission). a .verdict) (sym e) ∙ yes in
+    let said = ap (λ (a : Admission). a .verdict) (sym e) ∙ said-yes in
     let passed = yes-passes (joinCheck (jobsOf old) (jobsOf new)) (verdictBy joined algorithm) said in
     let is : answer .set .count ≡ length joined = ap (λ (a : Admission). a .set .count) e ∙ ap (λ (v : Verdict). setBy v old (setOf joined) .count) said ∙ count-set joined in
     omega (arith, is, records-few joined (then-first (recordsCheck [] joined) (anyRecord (jobsOf new)) passed))
