@@ -11,9 +11,8 @@ use jobs::job::Job;
 use jobs::refusal::Check;
 use jobs::refusal::Refusal;
 use jobs::set::JobSet;
+use table::header::HEADER;
 use table::line::MAX_COLUMNS;
-
-const HEADER: [u8; 48] = *b"chain,job,release,priority,least,most,deadline\r\n";
 
 // The numbers and values of a job, in the order of the columns.
 fn job_values(job: Job) -> [u64; MAX_COLUMNS]
@@ -71,11 +70,12 @@ pub fn table_text(set: JobSet, out: &mut [u8]) -> Written
         return Written::Refused(refusal);
     }
     let header = HEADER;
-    let length = header.len() + jobs_length(set);
+    let length = header.len() + 2 + jobs_length(set);
     if out.len() < length {
         return Written::Refused(Refusal::ShortBuffer);
     }
-    let at = write_bytes(&header, out, 0);
+    let after_header = write_bytes(&header, out, 0);
+    let at = write_bytes(b"\r\n", out, after_header);
     write_jobs(set, out, at);
     Written::Bytes(length as u32)
 }
