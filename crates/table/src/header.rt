@@ -5,6 +5,7 @@ ghost use Rattle.table.specs.Tables.{header};
 use crate::line::End;
 use crate::line::read_end;
 
+// The header, without the end of its line.
 pub const HEADER: [u8; 46] = *b"chain,job,release,priority,least,most,deadline";
 
 // Whether a text starts with these bytes.
