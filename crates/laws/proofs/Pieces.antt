@@ -1,9 +1,10 @@
--- A text made of pieces and written into a buffer piece by piece. Nothing here depends on what the pieces say. Assumes nothing.
-use Prim.Native.Nat.{ℕ, zero, suc, _+_, _-_, _≤_, _<_}
+-- A text made of pieces: written into a buffer piece by piece, and its length summed up piece by piece. Nothing here depends on what the pieces say. Assumes nothing.
+use Prim.Native.Nat.{ℕ, zero, suc, _+_, _-_, _*_, _≤_, _<_}
 use mathlib.Core.Path.{_≡_, sym, ap, _∙_}
 use mathlib.Core.List.{List, [], _++_}
 use native.Mathlib.Omega.{arith}
-use native.Mathlib.Nat.{add-zero}
+use native.Mathlib.Nat.{add-zero, mul-suc}
+use native.Mathlib.Numerals.{add-one}
 use lib.ListN.{length, length-append}
 use Rattle.laws.specs.Words.{patched}
 use Rattle.laws.proofs.Buffers.{Wrote, wrote-none, wrote-more, wrote-length}
@@ -60,3 +61,28 @@ module _ {A : Type 0} {whole piece : ℕ → List A} {total : ℕ} {before : Lis
   pieces-end h =
       let all : n ≡ total = omega (arith, w .few) in
       rw (← all) (w .wrote .place, w .wrote .list)
+
+-- the first n pieces, each no longer than `most`, have `sum` for their length
+pub record PiecesSummed {A : Type 0} (whole piece : ℕ → List A) (total most sum n : ℕ) : Type 0 where
+  pub made : Made whole piece total
+  pub few : n ≤ total
+  pub within : sum ≤ most * n
+  pub is : sum ≡ length (whole n)
+
+pub summed-none : {A : Type 0} {whole piece : ℕ → List A} {total : ℕ} → Made whole piece total → (most : ℕ) → PiecesSummed whole piece total most 0 0
+summed-none made most = record { made = made; few = omega arith; within = omega arith; is = sym (ap length (made .none)) }
+
+module _ {A : Type 0} {whole piece : ℕ → List A} {total most sum n : ℕ} (w : PiecesSummed whole piece total most sum n) where
+  pub summed-more : (size : ℕ) → n < total → (size ≡ length (piece n)) × (size ≤ most) → PiecesSummed whole piece total most (sum + size) (n + 1)
+  summed-more size h v =
+      record {
+        made = w .made;
+        few = omega arith;
+        within = rw add-one (omega (arith, w .within, v .1, mul-suc most n));
+        is = omega (arith, w .is, v .0, ap length (w .made .next n h), length-append (whole n) (piece n));
+      }
+
+  pub summed-end : total ≤ n → (sum ≡ length (whole total)) × (sum ≤ most * total)
+  summed-end h =
+      let all : n ≡ total = omega (arith, w .few) in
+      rw (← all) (w .is, w .within)

@@ -1,9 +1,11 @@
--- Lists over places: their length, their elements, their parts. Nothing here depends on what the elements are. Assumes nothing.
+-- Lists over places: their length, their elements, what maps them, and a list over its own places. Nothing here depends on what the elements are. Assumes nothing.
 use Prim.Native.Nat.{ℕ, zero, suc, _+_, _-_, _≤_, _<_}
 use mathlib.Core.Path.{_≡_, refl, sym, ap, _∙_}
+use mathlib.Core.List.{List, _∷_, map}
 use native.Mathlib.Omega.{arith}
-use native.Mathlib.Nat.{add-zero}
+use native.Mathlib.Nat.{add-zero, zero-add}
 use lib.ListN.{length, getD}
+use lib.Seq.{ext-getD}
 use Rattle.laws.specs.Words.{tabulate}
 
 pub length-tabulate : {A : Type 0} (i n : ℕ) (f : ℕ → A) → length (tabulate i n f) ≡ n
@@ -21,3 +23,14 @@ pub tabulate-ext : {A : Type 0} (i n : ℕ) (f g : ℕ → A) → ((k : ℕ) →
 unfolding tabulate
 tabulate-ext i zero f g h = refl
 tabulate-ext i (suc n) f g h = cc (h i (omega arith) (omega arith), tabulate-ext (suc i) n f g (λ k a b. h k (omega arith) (omega arith)))
+
+pub map-tabulate : {A B : Type 0} (f : A → B) (i n : ℕ) (g : ℕ → A) → map f (tabulate i n g) ≡ tabulate i n (λ k. f (g k))
+unfolding tabulate
+map-tabulate f i zero g = refl
+map-tabulate {B = B} f i (suc n) g = ap (λ (l : List B). f (g i) ∷ l) (map-tabulate f (suc i) n g)
+
+pub tabulate-list : {A : Type 0} (xs : List A) (d : A) → tabulate 0 (length xs) (λ i. getD xs i d) ≡ xs
+tabulate-list xs d =
+    let count = length-tabulate 0 (length xs) (λ i. getD xs i d) in
+    ext-getD d (tabulate 0 (length xs) (λ i. getD xs i d)) xs count
+    (λ i l. getD-tabulate 0 (length xs) (λ k. getD xs k d) d i (omega (arith, count)) ∙ ap (λ (k : ℕ). getD xs k d) (zero-add i))

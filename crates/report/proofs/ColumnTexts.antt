@@ -8,7 +8,7 @@ use native.Mathlib.Numerals.{add-one}
 use lib.Dec.{eqb}
 use lib.IntN.{ℤ, pos}
 use lib.ListN.{length, take, drop, getD}
-use lib.Seq.{take-suc, take-all, length-take-le}
+use lib.Seq.{take-suc, length-take-le}
 use borrow.Author.Tests.{eq-eqb, ne-eqb}
 use Rattle.laws.proofs.Tests.{by-equal}
 use Rattle.decimal.specs.Digits.{digitCount, decimal, signed}
@@ -68,6 +68,3 @@ columns-next values k h =
     rw (add-one, take-suc values k 0 h)
     (columns-snoc (take k values) (getD values k 0)
     ∙ ap (λ (i : ℕ). columnsText (take k values) ++ columnText i (getD values k 0)) (length-take-le k values (omega arith)))
-
-pub columns-all : (values : List ℕ) (k : ℕ) → length values ≤ k → columnsText (take k values) ≡ columnsText values
-columns-all values k h = ap columnsText (take-all k values h)

@@ -8,7 +8,7 @@ use lib.Seq.{take-length}
 use borrow.Rule.Slice.PartMut.{putMid}
 use Rattle.laws.specs.Words.{patched}
 use Rattle.laws.proofs.Buffers.{Wrote, wrote-none, wrote-one}
-use Rattle.laws.proofs.Pieces.{Made, PiecesWritten, pieces-none, pieces-end}
+use Rattle.laws.proofs.Pieces.{Made, PiecesWritten, PiecesSummed, pieces-none, pieces-end}
 use Rattle.decimal.specs.Digits.{decimal}
 use Rattle.decimal.proofs.Writing.{Writes, restFrom, wrote-written}
 use Rattle.report.specs.Texts.{afterCommas}
@@ -39,6 +39,10 @@ columns-made values = record { none = refl; next = columns-next values }
 abbrev pub ColumnsWritten : List ℕ → List ℕ → ℕ → List ℕ → ℕ → ℕ → Type 0
 ColumnsWritten values before at out next k =
     PiecesWritten (λ i. columnsText (take i values)) (λ i. columnText i (getD values i 0)) (length values) before at out next k
+
+-- their lengths are summed up; a column takes at most 21 bytes
+abbrev pub ColumnsSummed : List ℕ → ℕ → ℕ → Type 0
+ColumnsSummed values sum k = PiecesSummed (λ i. columnsText (take i values)) (λ i. columnText i (getD values i 0)) (length values) 21 sum k
 
 pub columns-none : (values before : List ℕ) (at : ℕ) → at + length (columnsText values) ≤ length before → ColumnsWritten values before at before at 0
 columns-none values before at h = pieces-none (columns-made values) before at (rw (take-length values) h)

@@ -6,19 +6,17 @@ use mathlib.Core.Path.{_≡_, sym, ap, subst}
 use native.Mathlib.Omega.{arith}
 use lib.Dec.{ltb}
 use lib.IntN.{ℤ, pos, natAbs, _-ℤ_}
-use lib.ListN.{length, getD, length-append, List·getD-eq-default}
-use borrow.Author.Tests.{ltb-true, ltb-false}
+use lib.ListN.{length, getD, length-append}
 use Rattle.laws.specs.Words.{numberAt}
 use Rattle.laws.proofs.Tests.{by-test}
 use Rattle.laws.proofs.Tabulate.{getD-tabulate}
-use Rattle.decimal.specs.Digits.{decimal, signed}
+use Rattle.decimal.specs.Digits.{signed}
 use Rattle.decimal.proofs.Values.{decimal-within, signed-within}
 use Rattle.jobs.specs.declared.job.Job.{Job}
 use Rattle.jobs.specs.declared.refusal.Check.the-variants.{Passed}
-use Rattle.jobs.specs.Limits.{maxJobs, maxChains}
-use Rattle.jobs.specs.Jobs.{noJob, jobAt}
+use Rattle.jobs.specs.Jobs.{jobAt}
 use Rattle.jobs.specs.Checks.{checkOf}
-use Rattle.jobs.proofs.Accepted.{Accepted, accepted, job-place}
+use Rattle.jobs.proofs.Accepted.{Accepted, accepted}
 use Rattle.theory.specs.Table.{tableOf}
 use Rattle.theory.specs.Bounds.{ert, cja, itr, slack, slacks}
 use Rattle.theory.proofs.Claims.{all-limited}
@@ -31,24 +29,8 @@ use Rattle.report.specs.Texts.{boundsHeader, boundsRow, boundsText, trac
 use Rattle.report.proofs.Lines.{lineText, linesUpTo, lines-within, Narrow, line-within}
 use Rattle.report.proofs.EntryTexts.{entriesText}
 use Rattle.report.proofs.MostTimes.{most-passed}
+use Rattle.report.proofs.Numbers.{numbered-at}
 use Rattle.report.proofs.TraceTexts.{spanText, spansText, rows-spans}
-
--- ---- the numbers of a job
-pub record Numbered (j : Job) : Type 0 where
-  pub chain : length (decimal (j .chain)) ≤ 2
-  pub job : length (decimal (j .job)) ≤ 3
-
-numbered-by : (j : Job) → j .chain ≤ maxChains → j .job ≤ maxJobs → Numbered j
-numbered-by j c k = record { chain = decimal-within 1 (j .chain) (omega arith); job = decimal-within 2 (j .job) (omega arith) }
-
-module _ (js : List Job) (ok : Accepted js) where
-  numbered-at : (i : ℕ) → Numbered (jobAt js i)
-  numbered-at i =
-      by-test (ltb i (length js))
-      (λ t.
-      let l = ltb-true i (length js) t in
-      numbered-by (jobAt js i) (ok .limits i l .chains) (omega (arith, job-place js ok i l, ok .few)))
-      (λ t. subst Numbered (sym (List·getD-eq-default js noJob (ltb-false i (length js) t))) (numbered-by noJob (omega arith) (omega arith)))
 
 -- ---- a slack
 small-difference : (d b : ℕ) → d < 10 ^ 11 → b < 10 ^ 11 → natAbs (pos d -ℤ pos b) < 10 ^ 11

@@ -9,4 +9,8 @@ pub mod EntryTexts
 pub mod TextAnswers
 pub mod MostTimes
 pub mod TraceTexts
+pub mod Numbers
 pub mod Fits
+pub mod TableTexts
+pub mod RowsRead
+pub mod WriteRead

@@ -8,7 +8,7 @@ use native.Mathlib.Numerals.{add-one}
 use lib.IntN.{ℤ}
 use lib.ListN.{length, drop, length-append, length-drop}
 use Rattle.laws.specs.Words.{ascii, tabulate}
-use Rattle.laws.proofs.Pieces.{Made}
+use Rattle.laws.proofs.Pieces.{Made, PiecesWritten, PiecesSummed}
 use Rattle.decimal.specs.Digits.{signed}
 use Rattle.report.specs.Texts.{afterCommas, linesText}
 
@@ -52,7 +52,17 @@ pub lines-made : (row : ℕ → List ℤ) (total : ℕ) → Made (linesUpTo row)
 unfolding linesText tabulate
 lines-made row total = record { none = refl; next = λ n h. ap (linesUpTo row) (add-one n) ∙ lines-more row n }
 
+-- the first n lines stand in the buffer from `at` on, and their lengths are summed up
+abbrev pub LinesWritten : (ℕ → List ℤ) → ℕ → List ℕ → ℕ → List ℕ → ℕ → ℕ → Type 0
+LinesWritten row total before at out next n = PiecesWritten (linesUpTo row) (λ k. lineText (row k)) total before at out next n
+
+abbrev pub LinesSummed : (ℕ → List ℤ) → ℕ → ℕ → ℕ → ℕ → Type 0
+LinesSummed row total most sum n = PiecesSummed (linesUpTo row) (λ k. lineText (row k)) total most sum n
+
 -- ---- how many bytes they take
+pub line-length : (row : List ℤ) → length (lineText row) ≡ length (drop 1 (afterCommas row)) + 2
+line-length row = ap length (line-is row) ∙ length-append (drop 1 (afterCommas row)) lineEnd
+
 pub lines-within : (row : ℕ → List ℤ) (width n : ℕ) → ((k : ℕ) → k < n → length (lineText (row k)) ≤ width) → length (linesUpTo row n) ≤ width * n
 unfolding linesText tabulate
 lines-within row width zero h = omega arith
@@ -79,10 +89,4 @@ commas-within (value ∷ values) (width ∷ widths) h =
 
 pub line-within : (row : List ℤ) (widths : List ℕ) → Narrow row widths → length (lineText row) ≤ total widths + 2
 line-within row widths h =
-    omega (
-      arith,
-      ap length (line-is row),
-      length-append (drop 1 (afterCommas row)) lineEnd,
-      length-drop 1 (afterCommas row),
-      commas-within row widths h,
-    )
+    omega (arith, line-length row, length-drop 1 (afterCommas row), commas-within row widths h)

@@ -1,13 +1,14 @@
 -- The most times of a set, as the code has them in an array; the machine takes those of an accepted set. Assumes nothing.
 use Prim.Native.Nat.{ℕ, zero, suc, _≤_}
 use mathlib.Core.Bool.{true}
-use mathlib.Core.List.{List, [], _∷_, map}
+use mathlib.Core.List.{List, [], _∷_}
 use mathlib.Core.Path.{_≡_, refl, sym, ap, _∙_}
 use native.Mathlib.Omega.{arith}
 use lib.ListN.{length, take, getD, length-map}
 use lib.Seq.{take-at}
 use Rattle.laws.specs.Words.{tabulate, padded}
 use Rattle.laws.proofs.Lists.{length-padded}
+use Rattle.laws.proofs.Tabulate.{map-tabulate}
 use Rattle.jobs.specs.declared.job.Job.{Job}
 use Rattle.jobs.specs.declared.set.JobSet.{JobSet}
 use Rattle.jobs.specs.declared.refusal.Check.the-variants.{Passed}
@@ -22,11 +23,6 @@ use Rattle.theory.proofs.Legal.{times-to}
 use Rattle.machine.specs.Ticks.{machineCheck}
 use Rattle.machine.proofs.RunningTimes.{times-passed}
 use Rattle.report.specs.Texts.{mostTimes}
-
-map-tabulate : {A B : Type 0} (f : A → B) (i n : ℕ) (g : ℕ → A) → map f (tabulate i n g) ≡ tabulate i n (λ k. f (g k))
-unfolding tabulate
-map-tabulate f i zero g = refl
-map-tabulate {B = B} f i (suc n) g = ap (λ (l : List B). f (g i) ∷ l) (map-tabulate f (suc i) n g)
 
 -- the most time at a place, as the code reads it
 abbrev pub mostAt : JobSet → ℕ → ℕ

@@ -1,7 +1,7 @@
-// Numbers with single commas between them, and bytes as they are, at a place of a buffer that has room for them.
-ghost use Rattle.laws.specs.Words.{_≡_, _+_, _*_, _≤_, cond, _∷_, map, eqb, pos, length, drop, patched};
+// Numbers with single commas between them, also as a line, and bytes as they are, at a place of a buffer that has room for them.
+ghost use Rattle.laws.specs.Words.{_≡_, _+_, _*_, _≤_, cond, [], _∷_, map, eqb, pos, length, drop, patched};
 ghost use Rattle.decimal.specs.Digits.{decimal};
-ghost use Rattle.report.specs.Texts.{afterCommas};
+ghost use Rattle.report.specs.Texts.{afterCommas, linesText};
 use decimal::count::digit_count;
 use decimal::unsigned::write_unsigned;
 
@@ -68,4 +68,21 @@ pub(crate) fn write_bytes(bytes: &[u8], out: &mut [u8], at: usize) -> usize
         i += 1;
     }
     at + i
+}
+
+// How many bytes the columns take as a line, no more than 8 of them.
+pub(crate) fn line_length(values: &[u64]) -> usize
+    requires { ⌜ length (now values) ≤ 8 ⌝ }
+    ensures { λ r. let line = linesText (map pos (now (values .entry)) ∷ []) in ⌜ (r ≡ length line) × (r ≤ 21 * length (now (values .entry)) + 2) ⌝ }
+{
+    columns_length(values) + 2
+}
+
+// Writes the columns as a line, and answers the place after it.
+pub(crate) fn write_line(values: &[u64], out: &mut [u8], at: usize) -> usize
+    requires { let line = linesText (map pos (now values) ∷ []) in ⌜ at + length line ≤ length (now out) ⌝ }
+    ensures { λ r. let line = linesText (map pos (now (values .entry)) ∷ []) in ⌜ (r ≡ at + length line) × (now (out .exit) ≡ patched (now (out .entry)) at line) ⌝ }
+{
+    let after_columns = write_columns(values, out, at);
+    write_bytes(b"\r\n", out, after_columns)
 }

@@ -1,46 +1,11 @@
 // The rows of the trace text: four numbers each, one row after another in a slice.
-ghost use Rattle.laws.specs.Words.{_≡_, _+_, _*_, _≤_, [], _∷_, length, getD, tabulate, patched};
+ghost use Rattle.laws.specs.Words.{_≡_, _+_, _*_, _≤_, length, tabulate, patched};
 ghost use Rattle.jobs.specs.Limits.{maxJobs};
 ghost use Rattle.report.specs.Texts.{linesText, entryRow};
-use crate::columns::columns_length;
-use crate::columns::write_bytes;
-use crate::columns::write_columns;
+use crate::columns::line_length;
+use crate::columns::write_line;
 
-// The four numbers of entry n.
-fn entry_values(numbers: &[u64], n: usize) -> [u64; 4]
-    requires { ⌜ 4 * n + 4 ≤ length (now numbers) ⌝ }
-    ensures { λ r. let all = now (numbers .entry) in ⌜ r ≡ getD all (4 * n) 0 ∷ getD all (4 * n + 1) 0 ∷ getD all (4 * n + 2) 0 ∷ getD all (4 * n + 3) 0 ∷ [] ⌝ }
-{
-    let at = 4 * n;
-    [
-        numbers[at],
-        numbers[at + 1],
-        numbers[at + 2],
-        numbers[at + 3],
-    ]
-}
-
-// How many bytes entry n takes: four columns of at most 21, and 2.
-fn entry_length(numbers: &[u64], n: usize) -> usize
-    requires { ⌜ 4 * n + 4 ≤ length (now numbers) ⌝ }
-    ensures { λ r. let line = linesText (entryRow (now (numbers .entry)) n ∷ []) in ⌜ (r ≡ length line) × (r ≤ 86) ⌝ }
-{
-    let values = entry_values(numbers, n);
-    columns_length(&values) + 2
-}
-
-// Writes entry n, and answers the place after it.
-fn write_entry(numbers: &[u64], n: usize, out: &mut [u8], place: usize) -> usize
-    requires { ⌜ 4 * n + 4 ≤ length (now numbers) ⌝ }
-    requires { let line = linesText (entryRow (now numbers) n ∷ []) in ⌜ place + length line ≤ length (now out) ⌝ }
-    ensures { λ r. let line = linesText (entryRow (now (numbers .entry)) n ∷ []) in ⌜ (r ≡ place + length line) × (now (out .exit) ≡ patched (now (out .entry)) place line) ⌝ }
-{
-    let values = entry_values(numbers, n);
-    let after_columns = write_columns(&values, out, place);
-    write_bytes(b"\r\n", out, after_columns)
-}
-
-// How many bytes the first entries take, at most 86 each.
+// How many bytes the first entries take, at most 86 each: four columns of at most 21, and 2.
 pub(crate) fn entries_length(numbers: &[u64], count: usize) -> usize
     requires { ⌜ (4 * count ≤ length (now numbers)) × (count ≤ 2 * maxJobs) ⌝ }
     ensures { λ r. let rows = tabulate 0 count (entryRow (now (numbers .entry))) in ⌜ (r ≡ length (linesText rows)) × (r ≤ 172 * maxJobs) ⌝ }
@@ -48,7 +13,9 @@ pub(crate) fn entries_length(numbers: &[u64], count: usize) -> usize
     let mut sum: usize = 0;
     let mut n: usize = 0;
     while n < count {
-        sum += entry_length(numbers, n);
+        let from = 4 * n;
+        let to = from + 4;
+        sum += line_length(&numbers[from..to]);
         n += 1;
     }
     sum
@@ -63,7 +30,9 @@ pub(crate) fn write_entries(numbers: &[u64], count: usize, out: &mut [u8], at: u
     let mut next = at;
     let mut n: usize = 0;
     while n < count {
-        next = write_entry(numbers, n, out, next);
+        let from = 4 * n;
+        let to = from + 4;
+        next = write_line(&numbers[from..to], out, next);
         n += 1;
     }
     next

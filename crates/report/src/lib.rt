@@ -2,6 +2,7 @@
 pub mod bounds;
 mod columns;
 mod entries;
+pub mod listing;
 pub mod refused;
 mod row;
 mod rows;

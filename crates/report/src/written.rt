@@ -2,7 +2,7 @@
 use jobs::refusal::Refusal;
 use jobs::set::JobSet;
 
-// Enough for every text of an accepted set, by the theorem `texts-fit`.
+// Enough for every text of an accepted set, by the theorems `texts-fit` and `write-read`.
 pub const MAX_BYTES: usize = 64 * JobSet::MAX_JOBS;
 
 pub enum Written {

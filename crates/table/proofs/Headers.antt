@@ -1,9 +1,9 @@
 -- A text that starts with the header: byte by byte, and as its first line. Assumes nothing.
 use Prim.Native.Nat.{ℕ, _+_, _≤_, _<_}
 use mathlib.Core.Bool.{Bool, true, false, cond, _&&_}
-use mathlib.Core.List.{List, [], _∷_, _++_}
+use mathlib.Core.List.{List, _++_}
 use mathlib.Core.Path.{_≡_, refl, sym, ap, _∙_}
-use mathlib.Core.Logic.{_≢_, inl}
+use mathlib.Core.Logic.{_≢_}
 use native.Mathlib.Omega.{arith}
 use lib.ListN.{length, getD, take, drop, length-append, length-take, length-drop, take-append-drop}
 use lib.Seq.{take-append-seam}
@@ -12,11 +12,12 @@ use borrow.Author.Tests.{le-leb, lt-leb, leb-true, eq-eqb, ne-eqb, eqb-true, eqb
 use Rattle.laws.specs.Words.{sameUpTo}
 use Rattle.laws.proofs.Tests.{by-test, both-ways, never-true, and-left, and-right, and-both}
 use Rattle.laws.proofs.Same.{same-not, same-whole, same-front, front-same}
-use Rattle.laws.proofs.Lines.{firstLine, afterLine, no-break, lineLength, after-within, first-take}
+use Rattle.laws.proofs.Lines.{firstLine, afterLine, lineLength, after-within, first-take}
 use Rattle.table.specs.declared.line.End.{End}
 use Rattle.table.specs.declared.line.End.the-variants.{Here, Elsewhere}
 use Rattle.table.specs.Tables.{header}
 use Rattle.table.proofs.Lines.{endOf, end-within}
+use Rattle.table.proofs.PlainLines.{noReturn, goes-on}
 
 -- ---- what the contracts write out
 abbrev pub startsWith : List ℕ → List ℕ → Bool
@@ -40,38 +41,6 @@ module _ (prefix text : List ℕ) where
   prefix-differs i h ne = never-true _ (λ e. both-ways (and-right (leb (length prefix) (length text)) (sameUpTo (length prefix) text prefix) e) (same-not (length prefix) text prefix i h ne))
 
 -- ---- as the first line; the prefix holds no CR
-noReturn : List ℕ → Bool
-noReturn [] = true
-noReturn (b ∷ text) = cond (eqb b 13) false (noReturn text)
-
--- a byte that is no CR stays in its line
-first-plain : (b : ℕ) (text : List ℕ) → (b ≡ 13 → ⊥) → firstLine (b ∷ text) ≡ b ∷ firstLine text
-unfolding firstLine
-first-plain b [] h = refl
-first-plain b (c ∷ text) h = rw (no-break b c (inl h))
-
-after-plain : (b : ℕ) (text : List ℕ) → (b ≡ 13 → ⊥) → afterLine (b ∷ text) ≡ afterLine text
-unfolding afterLine
-after-plain b [] h = refl
-after-plain b (c ∷ text) h = rw (no-break b c (inl h))
-
--- what stands behind the prefix goes on its line
-record GoesOn (prefix rest : List ℕ) : Type 0 where
-  line : firstLine (prefix ++ rest) ≡ prefix ++ firstLine rest
-  after : afterLine (prefix ++ rest) ≡ afterLine rest
-
-goes-on : (prefix rest : List ℕ) → noReturn prefix ≡ true → GoesOn prefix rest
-unfolding noReturn
-goes-on [] rest n = record { line = refl; after = refl }
-goes-on (p ∷ prefix) rest n =
-    by-test (eqb p 13) (λ t. absurd (both-ways n (rw t)))
-    (λ t.
-    let r = goes-on prefix rest (rw t at n) in
-    record {
-      line = first-plain p (prefix ++ rest) (eqb-false p 13 t) ∙ ap (λ (l : List ℕ). p ∷ l) (r .line);
-      after = after-plain p (prefix ++ rest) (eqb-false p 13 t) ∙ r .after;
-    })
-
 -- a line that starts with the prefix is the prefix where nothing follows
 line-append : (prefix rest : List ℕ) → isLine prefix (prefix ++ rest) ≡ eqb (length rest) 0
 line-append prefix rest =

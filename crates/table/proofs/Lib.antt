@@ -1,7 +1,9 @@
 pub mod Lines
+pub mod PlainLines
 pub mod Columns
 pub mod Rows
 pub mod Headers
 pub mod Records
 pub mod Tables
 pub mod Accepting
+pub mod ReadBack

@@ -5,7 +5,8 @@ ghost use Rattle.table.specs.Tables.{header};
 use crate::line::End;
 use crate::line::read_end;
 
-const HEADER: [u8; 46] = *b"chain,job,release,priority,least,most,deadline";
+// The header, without the end of its line.
+pub const HEADER: [u8; 46] = *b"chain,job,release,priority,least,most,deadline";
 
 // Whether a text starts with these bytes.
 fn starts_with(text: &[u8], prefix: &[u8]) -> bool

@@ -1,4 +1,4 @@
 // The text of a job table, and the set of jobs that it holds.
-mod header;
+pub mod header;
 pub mod line;
 pub mod reading;
