@@ -22,11 +22,7 @@ fn run_load(jobs: u64, chains: u64, release: u64, most: u64) -> Vec<Job> {
 }
 
 fn table_text(jobs: &[Job]) -> Vec<u8> {
-    let mut out = String::from(table::HEADER) + "\r\n";
-    for j in jobs {
-        out += &format!("{},{},{},{},{},{},{}\r\n", j.chain, j.job, j.release, j.priority, j.least, j.most, j.deadline);
-    }
-    out.into_bytes()
+    text::table_text(jobs).into_bytes()
 }
 
 /// How many (pair, job) steps the three bounds take: one scan over all jobs for each job by ERT, and one for each pair of a chain by CJA and

@@ -29,11 +29,11 @@ pub fn bounds(jobs: &[Job]) -> Bounds {
 
 /// The bounds by algorithm 1 ERT, 2 CJA or 3 ITR; another is refused with 10.
 pub fn by(jobs: &[Job], algorithm: u64) -> Result<Vec<u64>, u8> {
-    let all = bounds(jobs);
+    let chains = chains(jobs);
     match algorithm {
-        1 => Ok(all.ert),
-        2 => Ok(all.cja),
-        3 => Ok(all.itr),
+        1 => Ok(ert(&chains, true).concat()),
+        2 => Ok(cja(&chains, |_, _, _, _, _| true).concat()),
+        3 => Ok(itr(&chains).0.concat()),
         _ => Err(10),
     }
 }
