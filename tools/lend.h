@@ -9,7 +9,7 @@
 #include <string.h>
 #include <sys/mman.h>
 
-enum { PAGE = 4096, ROOM = 2 * PAGE };
+enum { PAGE = 4096, ROOM = 2 * PAGE, FILL = 0xa5 };
 enum place { ON_THE_HEAP, AFTER_A_WALL, BEFORE_A_WALL, PLACES };
 enum role { FIRST, SECOND, BUFFER, ROLES };
 
@@ -86,10 +86,17 @@ static void check_size(const char *what, call *function, struct ranges read, siz
     count(good, what);
 }
 
-/* The same for an empty buffer, and for those from two elements too few to two too many. */
+/* Counts whether the call with room left what it held from the exact size on. */
+static void check_rest(const char *what, size_t exact)
+{
+    count(memcmp(after + exact, before + exact, ROOM - exact) == 0, what);
+}
+
+/* Both for an empty buffer, and for those from two elements too few to two too many. */
 static void check_sizes(const char *what, call *function, struct ranges read, size_t element, size_t exact, int64_t answer)
 {
     size_t spare = 2 * element;
+    check_rest(what, exact);
     check_size(what, function, read, 0, exact, answer);
     for (size_t size = exact < spare ? 0 : exact - spare; size <= exact + spare; size += element)
         check_size(what, function, read, size, exact, answer);

@@ -67,6 +67,7 @@ static void check_admission(const uint64_t *numbers, size_t length, const uint64
     for (algorithm = 0; algorithm <= 4; algorithm++) {
         int64_t answer = call_with_room(set_admit, further);
         size_t needed = answer == 0 ? 0 : exact; /* on no the room does not matter */
+        check_rest("set_admit", exact);
         check_size("set_admit", set_admit, further, length * WORD, needed, answer);
         for (size_t size = exact < 2 * WORD ? 0 : exact - 2 * WORD; size <= exact + 2 * WORD; size += WORD)
             check_size("set_admit", set_admit, further, size, needed, answer);
@@ -95,7 +96,7 @@ static void check_ticks(struct ranges timed, const uint64_t *state, size_t lengt
         check_sizes("set_tick", set_tick, timed, WORD, sizeof(struct cudlomer_state), answer);
         if (answer < 0 || answer == CUDLOMER_FINISHED)
             return;
-        memcpy(before, after, sizeof before);
+        memcpy(before, after, ROOM);
     }
 }
 
@@ -119,7 +120,7 @@ static void check_machine(const uint64_t *numbers, size_t length, const struct c
 static void check_numbers_of(const uint64_t *numbers, size_t length, const struct cudlomer_job *jobs, size_t jobs_count)
 {
     size_t chain = CUDLOMER_NUMBERS(cudlomer_job, draw(1, 2));
-    memset(before, 0xa5, sizeof before);
+    memset(before, FILL, ROOM);
     check_figures(numbers, length);
     check_machine(numbers, length, jobs, jobs_count);
     if (length > chain) {

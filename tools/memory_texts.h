@@ -57,8 +57,9 @@ static void check_numbers(const char *table, size_t length, int64_t answer)
 static void check_text(const char *table, size_t length)
 {
     struct ranges text = { table, NULL, length, 0 };
-    memset(before, 0, ROOM);
+    memset(before, FILL, ROOM);
     int64_t answer = check_writer("bounds", text_bounds, text);
+    after[answer < 0 ? 0 : answer] = 0;
     if (runs_shortly((char *)after))
         check_writer("trace", text_trace, text);
     int64_t jobs = call_with_room(text_set, text);

@@ -20,7 +20,9 @@ pub fn compare(tally: &mut Tally, draw: &mut Draw, kind: Kind, jobs: &[Job]) {
     compare_rooms(tally, &held, count, &[]);
     compare_rooms(tally, &held, count, &draw.damaged_set(&chain));
     let damaged = draw.damaged_set(&held);
-    compare_rooms(tally, &damaged, damaged.len().div_ceil(7) as u64, &chain);
+    let damaged_count = damaged.len().div_ceil(7) as u64;
+    compare_rooms(tally, &damaged, damaged_count, &chain);
+    compare_admission(tally, &damaged, damaged_count, &[], 3, damaged.len());
     for other in [0, count - 1, count + 1, 64, 65, count | 1 << 32, u64::MAX] {
         compare_admission(tally, &held, other, &chain, 3, held.len() + 8 * 7);
     }

@@ -11,14 +11,7 @@ extern "C" {
     pub fn cudlomer_set_bounds(jobs: *const u64, jobs_length: usize, algorithm: u64, out: *mut u64, out_length: usize) -> i64;
     pub fn cudlomer_set_verdict(jobs: *const u64, jobs_length: usize, algorithm: u64) -> i64;
     pub fn cudlomer_set_rounds(jobs: *const u64, jobs_length: usize) -> i64;
-    pub fn cudlomer_set_admit(
-        jobs: *mut u64,
-        jobs_length: usize,
-        count: u64,
-        chain: *const u64,
-        chain_length: usize,
-        algorithm: u64,
-    ) -> i64;
+    pub fn cudlomer_set_admit(jobs: *mut u64, jobs_length: usize, count: u64, chain: *const u64, chain_length: usize, algorithm: u64) -> i64;
     pub fn cudlomer_set_tick(
         jobs: *const u64,
         jobs_length: usize,
@@ -27,20 +20,6 @@ extern "C" {
         state: *mut u64,
         state_length: usize,
     ) -> i64;
-    pub fn cudlomer_set_run(
-        jobs: *const u64,
-        jobs_length: usize,
-        times: *const u64,
-        times_length: usize,
-        out: *mut u64,
-        out_length: usize,
-    ) -> i64;
-    pub fn cudlomer_set_trace(
-        jobs: *const u64,
-        jobs_length: usize,
-        times: *const u64,
-        times_length: usize,
-        out: *mut u64,
-        out_length: usize,
-    ) -> i64;
+    pub fn cudlomer_set_run(jobs: *const u64, jobs_length: usize, times: *const u64, times_length: usize, out: *mut u64, out_length: usize) -> i64;
+    pub fn cudlomer_set_trace(jobs: *const u64, jobs_length: usize, times: *const u64, times_length: usize, out: *mut u64, out_length: usize) -> i64;
 }
