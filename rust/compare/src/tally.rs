@@ -43,7 +43,7 @@ impl Tally {
         self.same(what, given, (answer, left), (wanted, wanted_left));
     }
 
-    /// The same in buffers around the exact length, which is that of a refused call at will.
+    /// The same in buffers of lengths around the exact one; where a call is refused any will do.
     pub fn around<T: Copy + PartialEq + Debug>(
         &mut self,
         what: &str,

@@ -63,7 +63,6 @@ fn compare_run(tally: &mut Tally, set: &Set, jobs: &[reference::Job], most: &[u6
         return;
     }
     let mut state = State::START;
-    let ran = |answer| answer != Ok(Ticked::Finished);
-    while ran(set.tick(&times, &mut state)) && state.time <= run.end {}
-    tally.same("Set::tick", &jobs, (state.time, &state.work[..jobs.len()]), (run.end, most));
+    let finished = (0..=run.end).any(|_| set.tick(&times, &mut state) == Ok(Ticked::Finished));
+    tally.same("Set::tick", &jobs, (finished, state.time, &state.work[..jobs.len()]), (true, run.end, most));
 }

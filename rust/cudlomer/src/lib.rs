@@ -12,15 +12,14 @@
 //!
 //! let times = set.times(|job| job.most);
 //! let mut state = State::START;
-//! let mut idle = 0;
 //! loop {
 //!     match set.tick(&times, &mut state)? {
-//!         Ticked::Ran { chain, job } => assert!((chain, job) <= (2, 1)),
-//!         Ticked::Idle => idle += 1,
+//!         Ticked::Ran { chain, job } => println!("job {job} of chain {chain}"),
+//!         Ticked::Idle => println!("idle"),
 //!         Ticked::Finished => break,
 //!     }
 //! }
-//! assert_eq!((idle, state.time), (2, 13));
+//! assert_eq!((state.time, &state.work[..3]), (13, &[6, 2, 3][..]));
 //! # Ok::<(), cudlomer::Refused>(())
 //! ```
 
