@@ -6,8 +6,8 @@ use crate::side::{jobs_of, numbers_of, STATE, WANTED};
 use crate::tally::Tally;
 use reference::{set, Job};
 
-/// So many ticks of a run are gone through one by one.
-const TICKS: usize = 400;
+/// So many ticks of a run are gone through one by one, which is more than a run of short jobs with releases near each other has.
+const TICKS: usize = 2_500;
 
 pub fn compare(tally: &mut Tally, draw: &mut Draw, jobs: &[Job]) {
     let numbers = numbers_of(jobs);

@@ -37,8 +37,8 @@ impl Tally {
     pub fn lent<T: Copy + PartialEq + Debug>(&mut self, what: &str, given: &dyn Debug, held: &[T], call: impl Fn(&Side, &mut [T]) -> Answer) {
         let (mut left, mut wanted_left) = (held.to_vec(), held.to_vec());
         let (answer, wanted) = (call(&PART, &mut left), call(&WANTED, &mut wanted_left));
-        if let Err(number @ 1..=11) = answer {
-            self.met[number as usize] += 1;
+        if let Some(met) = answer.err().and_then(|number| self.met.get_mut(number as usize)) {
+            *met += 1;
         }
         self.same(what, given, (answer, left), (wanted, wanted_left));
     }
