@@ -1,4 +1,4 @@
-//! The safe wrapper's sets beside the reference, and its refusals.
+//! The safe wrapper's sets and functions on texts beside the reference, and its refusals.
 
 use crate::draw::{Draw, Kind};
 use crate::is_short;
@@ -10,6 +10,7 @@ pub fn compare(tally: &mut Tally, draw: &mut Draw, kind: Kind, jobs: &[reference
     let own: Vec<Job> = jobs.iter().map(job).collect();
     let set = Set::of(&own).unwrap();
     tally.same("Set::read", &jobs, Set::read(text::table_text(jobs).as_bytes()), Ok(set));
+    compare_texts(tally, jobs);
     compare_figures(tally, &set, jobs);
     compare_admission(tally, &set, jobs, &draw.chain(kind));
     if is_short(jobs) {
@@ -27,6 +28,25 @@ fn job(j: &reference::Job) -> Job {
 
 fn listed(times: Times) -> Vec<u64> {
     times.iter().collect()
+}
+
+/// The functions on texts, of the table and of no text.
+fn compare_texts(tally: &mut Tally, jobs: &[reference::Job]) {
+    let table = text::table_text(jobs).into_bytes();
+    let mut out = [0; Set::MAX_TEXT];
+    let written = cudlomer::bounds(&table, &mut out).map(|bytes| out[..bytes].to_vec());
+    tally.same("bounds", &jobs, written, Ok(text::bounds_text(jobs).into_bytes()));
+    if is_short(jobs) {
+        let written = cudlomer::trace(&table, &mut out).map(|bytes| out[..bytes].to_vec());
+        tally.same("trace", &jobs, written, Ok(text::trace_text(jobs).into_bytes()));
+    }
+    for algorithm in 0..=4 {
+        tally.same("verdict", &jobs, cudlomer::verdict(&table, algorithm).map_err(|r| r.0), bounds::verdict(jobs, algorithm.into()));
+    }
+    tally.same("rounds", &jobs, cudlomer::rounds(&table), Ok(bounds::bounds(jobs).rounds));
+    let nothing = (cudlomer::bounds(&[], &mut out), cudlomer::trace(&[], &mut out), cudlomer::verdict(&[], 3), cudlomer::rounds(&[]));
+    let refused = Refused(2);
+    tally.same("no text", &jobs, nothing, (Err(refused), Err(refused), Err(refused), Err(refused)));
 }
 
 fn compare_figures(tally: &mut Tally, set: &Set, jobs: &[reference::Job]) {
