@@ -1,24 +1,19 @@
-/* Cudlomer: how late each job of a job table can be complete, and when each runs.
+/* Cudlomer: how late each job of a set can be complete, whether all deadlines are met, whether a further chain may come aboard, and what runs at
+ * each tick.
  *
- * A table is text: the header line `chain,job,release,priority,least,most,deadline`, then a line for each job, each line ended by CR LF, which
- * the last may lack. Times are ticks of 100 microseconds; a greater priority number is more urgent. There are at most 64 jobs, 16 chains and
- * 4,096 bytes of text.
+ * A set is an array of jobs, chain by chain: chains count from 1, jobs from 1 within their chain. It comes from the text of a table, the header
+ * line `chain,job,release,priority,least,most,deadline` and then a line for each job, each line ended by CR LF, which the last may lack; or a
+ * program fills in the array itself. Times are ticks of 100 microseconds; a greater priority number is more urgent.
  *
- * Every function takes a text of any content and length, and never reads or writes outside the two ranges that it is handed. A pointer may be
- * anything where its length is 0. The two ranges must not overlap. No function keeps a pointer, allocates memory or has state, so that any
- * number of threads may call them. Of the C library they use memcpy and memset. A buffer of 4,096 bytes is enough for
- * every text that they write. They take less than 32 KB of stack, which is measured, not proved.
+ * The functions stand in three groups: on texts (cudlomer_bounds and three more), on sets as plain numbers (cudlomer_set_...), and, for a program
+ * in C to call, the same on structs (cudlomer_jobs_...), whose counts are those of array elements.
  *
- * An answer below 0 is the number of a refusal, negated; a refused call has written nothing:
- *    -1  the text is longer than 4,096 bytes
- *    -2  the first line is not the header
- *    -3  a line is not seven decimal numbers with single commas
- *    -4  there are more than 64 records
- *    -5  a chain or job is not next in order
- *    -6  a value or chain number is beyond its limits, or least exceeds most
- *    -7  there is no record
- *    -9  the buffer is shorter than the text to be written
- *   -10  the algorithm is not 1, 2 or 3
+ * Every function takes anything, and never reads or writes outside the ranges that it is handed. A pointer may be anything where its length is 0.
+ * The ranges must not overlap. No function keeps a pointer, allocates memory or has state, so that any number of threads may call them. Of the C
+ * library they use memcpy and memset. They take less than 32 KB of stack, which is measured, not proved.
+ *
+ * An answer below 0 is the number of a refusal, negated, and the first refusal in the order that a function names decides. A refused call has
+ * written nothing. Where nothing is refused, what a buffer holds behind the last byte or number written stays.
  */
 #ifndef CUDLOMER_H
 #define CUDLOMER_H
@@ -28,24 +23,218 @@
 
 #ifdef __cplusplus
 extern "C" {
+#define CUDLOMER_ASSERT static_assert
+#else
+#define CUDLOMER_ASSERT _Static_assert
 #endif
 
+/* The greatest values. A buffer of CUDLOMER_MAX_TEXT bytes is enough for every text that is written, CUDLOMER_MAX_ROWS rows for every trace. */
+#define CUDLOMER_MAX_JOBS 64
+#define CUDLOMER_MAX_CHAINS 16
+#define CUDLOMER_MAX_TEXT 4096
+#define CUDLOMER_MAX_ROWS (2 * CUDLOMER_MAX_JOBS)
+#define CUDLOMER_MAX_RELEASE UINT64_C(1000000000)
+#define CUDLOMER_MAX_PRIORITY UINT64_C(255)
+#define CUDLOMER_MAX_TIME UINT64_C(1000000) /* of least and most */
+#define CUDLOMER_MAX_DEADLINE UINT64_C(4000000000)
+#define CUDLOMER_LAST_TIME UINT64_C(2000000000) /* of a state; no run from time 0 reaches it */
+
+/* The algorithms of Sun and Liu; a bound by ITR is at most that by CJA, which is at most that by ERT. */
+enum cudlomer_algorithm {
+    CUDLOMER_ERT = 1,
+    CUDLOMER_CJA = 2,
+    CUDLOMER_ITR = 3
+};
+
+/* What a tick answers where no job ran. */
+enum cudlomer_ticked {
+    CUDLOMER_IDLE = 0,
+    CUDLOMER_FINISHED = 1
+};
+
+/* The numbers of refusals. */
+enum cudlomer_refusal {
+    CUDLOMER_TEXT_TOO_LONG = 1,      /* the text is longer than 4,096 bytes */
+    CUDLOMER_NOT_HEADER = 2,         /* the first line is not the header */
+    CUDLOMER_MALFORMED_LINE = 3,     /* a line is not seven decimal numbers with single commas */
+    CUDLOMER_TOO_MANY_RECORDS = 4,   /* there are more than 64 records */
+    CUDLOMER_OUT_OF_ORDER = 5,       /* a chain or job is not next in order */
+    CUDLOMER_OUT_OF_LIMITS = 6,      /* a value or chain number is beyond its limits, or least exceeds most */
+    CUDLOMER_NO_RECORD = 7,          /* there is no record */
+    CUDLOMER_RUNNING_TIMES = 8,      /* the running times are not one for each job, from its least to its most */
+    CUDLOMER_SHORT_BUFFER = 9,       /* the buffer is too short */
+    CUDLOMER_UNKNOWN_ALGORITHM = 10, /* the algorithm is not 1, 2 or 3 */
+    CUDLOMER_IMPOSSIBLE_STATE = 11   /* the state cannot be */
+};
+
+/* A job. Least is from 1 to most; release, priority and deadline may be 0. A later job of a chain counts as released no earlier than its
+ * predecessor's release and least together. */
+struct cudlomer_job {
+    uint64_t chain, job, release, priority, least, most, deadline;
+};
+
+/* The machine's state, all 0 at the start: the time, and the ticks of work done of each job. What stands beyond the jobs is neither read nor
+ * changed. */
+struct cudlomer_state {
+    uint64_t time, work[CUDLOMER_MAX_JOBS];
+};
+
+/* A row of a trace: the job runs from one time to another without a break. */
+struct cudlomer_row {
+    uint64_t chain, job, from, to;
+};
+
+/* How many numbers so many structs are. */
+#define CUDLOMER_NUMBERS(type, count) ((count) * (sizeof(struct type) / sizeof(uint64_t)))
+
+/* In memory the structs are the numbers that the functions take, in this order. */
+#define CUDLOMER_PLACE(type, member, place) \
+    CUDLOMER_ASSERT(offsetof(struct type, member) == (place) * sizeof(uint64_t), #type " has " #member " at another place")
+#define CUDLOMER_SIZE(type, numbers) CUDLOMER_ASSERT(sizeof(struct type) == (numbers) * sizeof(uint64_t), #type " has another size")
+CUDLOMER_PLACE(cudlomer_job, chain, 0);
+CUDLOMER_PLACE(cudlomer_job, job, 1);
+CUDLOMER_PLACE(cudlomer_job, release, 2);
+CUDLOMER_PLACE(cudlomer_job, priority, 3);
+CUDLOMER_PLACE(cudlomer_job, least, 4);
+CUDLOMER_PLACE(cudlomer_job, most, 5);
+CUDLOMER_PLACE(cudlomer_job, deadline, 6);
+CUDLOMER_SIZE(cudlomer_job, 7);
+CUDLOMER_PLACE(cudlomer_state, time, 0);
+CUDLOMER_PLACE(cudlomer_state, work, 1);
+CUDLOMER_SIZE(cudlomer_state, 1 + CUDLOMER_MAX_JOBS);
+CUDLOMER_PLACE(cudlomer_row, chain, 0);
+CUDLOMER_PLACE(cudlomer_row, job, 1);
+CUDLOMER_PLACE(cudlomer_row, from, 2);
+CUDLOMER_PLACE(cudlomer_row, to, 3);
+CUDLOMER_SIZE(cudlomer_row, 4);
+
+/* ---- On texts ---- */
+
 /* Writes `chain,job,ert,cja,itr,slack` and a row for each job, with CR LF, into the buffer: the latest moment at which the job can be complete,
- * by the algorithms ERT, CJA and ITR, and its deadline less the ITR bound. Answers how many bytes were written; what the buffer holds after
- * them stays. */
+ * by the algorithms ERT, CJA and ITR, and its deadline less the ITR bound. Answers how many bytes were written. Refuses with 1 to 7, then 9. */
 int64_t cudlomer_bounds(const uint8_t *text, size_t text_length, uint8_t *out, size_t out_length);
 
 /* Writes `chain,job,from,to` and a row for each longest run of one job, the earliest first, with CR LF, into the buffer: when the machine runs
- * the jobs from time 0, each for its most time. Answers how many bytes were written; what the buffer holds after them stays. While a job runs
- * the machine goes from tick to tick, at some 2 nanoseconds for each tick and job of the table where this was measured; it passes over idle
- * time. */
+ * the jobs from time 0, each for its most time. Answers how many bytes were written. Refuses with 1 to 7, then 9. While a job runs the machine
+ * goes from tick to tick, at some 2 nanoseconds for each tick and job of the table where this was measured; it passes over idle time. */
 int64_t cudlomer_trace(const uint8_t *text, size_t text_length, uint8_t *out, size_t out_length);
 
-/* Answers 1 where each job's bound is at or before its deadline, and 0 where one is not; the algorithm is 1 ERT, 2 CJA or 3 ITR. */
+/* Answers 1 where each job's bound by the algorithm is at or before its deadline, and 0 where one is not. Refuses with 1 to 7, then 10. */
 int64_t cudlomer_verdict(const uint8_t *text, size_t text_length, uint8_t algorithm);
 
-/* Answers how many rounds ITR takes: at most as many as there are jobs. */
+/* Answers how many rounds ITR takes: at most as many as there are jobs. Refuses with 1 to 7. */
 int64_t cudlomer_rounds(const uint8_t *text, size_t text_length);
+
+/* ---- On sets, as plain numbers ----
+ *
+ * Each does what the function on structs of the same name does, which is told there. A job is seven numbers in the order of the columns, a row
+ * four, a state 65: the time and 64 numbers of work. All lengths are counts of numbers. Where jobs_length is no multiple of seven, the last job's
+ * missing numbers are 0. */
+int64_t cudlomer_set_read(const uint8_t *text, size_t text_length, uint64_t *jobs, size_t jobs_length);
+int64_t cudlomer_set_write(const uint64_t *jobs, size_t jobs_length, uint8_t *out, size_t out_length);
+int64_t cudlomer_set_bounds(const uint64_t *jobs, size_t jobs_length, uint64_t algorithm, uint64_t *out, size_t out_length);
+int64_t cudlomer_set_verdict(const uint64_t *jobs, size_t jobs_length, uint64_t algorithm);
+int64_t cudlomer_set_rounds(const uint64_t *jobs, size_t jobs_length);
+int64_t cudlomer_set_admit(uint64_t *jobs, size_t jobs_length, uint64_t count, const uint64_t *chain, size_t chain_length, uint64_t algorithm);
+int64_t cudlomer_set_tick(const uint64_t *jobs, size_t jobs_length, const uint64_t *times, size_t times_length, uint64_t *state,
+                          size_t state_length);
+int64_t cudlomer_set_run(const uint64_t *jobs, size_t jobs_length, const uint64_t *times, size_t times_length, uint64_t *out, size_t out_length);
+int64_t cudlomer_set_trace(const uint64_t *jobs, size_t jobs_length, const uint64_t *times, size_t times_length, uint64_t *out,
+                           size_t out_length);
+
+/* ---- On sets, as structs ----
+ *
+ * `count` is how many jobs the set has, `room` how many elements a buffer has. Each function checks its set anew: refusals 4 to 6 job by job, the
+ * first bad job deciding, then 7. */
+
+/* Reads the text of a table into `jobs`. Answers how many jobs it has. Refuses with 1 to 7, then with 9 where there is not room for them. */
+static inline int64_t cudlomer_jobs_read(const uint8_t *text, size_t text_length, struct cudlomer_job *jobs, size_t room)
+{
+    return cudlomer_set_read(text, text_length, (uint64_t *)jobs, CUDLOMER_NUMBERS(cudlomer_job, room));
+}
+
+/* Writes the text of the set's table into the buffer, each line ended by CR LF. Answers how many bytes were written. Refuses with 4 to 7, then 9. */
+static inline int64_t cudlomer_jobs_write(const struct cudlomer_job *jobs, size_t count, uint8_t *out, size_t out_length)
+{
+    return cudlomer_set_write((const uint64_t *)jobs, CUDLOMER_NUMBERS(cudlomer_job, count), out, out_length);
+}
+
+/* Writes a bound by the algorithm for each job: by that time it is complete in every run. Answers how many were written. Refuses with 4 to 7,
+ * with 10, then with 9 where there is not room for all. */
+static inline int64_t cudlomer_jobs_bounds(const struct cudlomer_job *jobs, size_t count, uint64_t algorithm, uint64_t *bounds, size_t room)
+{
+    return cudlomer_set_bounds((const uint64_t *)jobs, CUDLOMER_NUMBERS(cudlomer_job, count), algorithm, bounds, room);
+}
+
+/* Answers 1 where each job's bound by the algorithm is at or before its deadline, and 0 where one is not. Refuses with 4 to 7, then 10. */
+static inline int64_t cudlomer_jobs_verdict(const struct cudlomer_job *jobs, size_t count, uint64_t algorithm)
+{
+    return cudlomer_set_verdict((const uint64_t *)jobs, CUDLOMER_NUMBERS(cudlomer_job, count), algorithm);
+}
+
+/* Answers how many rounds ITR takes: at most as many as there are jobs. Refuses with 4 to 7. */
+static inline int64_t cudlomer_jobs_rounds(const struct cudlomer_job *jobs, size_t count)
+{
+    return cudlomer_set_rounds((const uint64_t *)jobs, CUDLOMER_NUMBERS(cudlomer_job, count));
+}
+
+/* Asks whether a further chain may come aboard: whether all deadlines are met by the algorithm once it has joined the first `count` jobs, which
+ * may be none. On yes the chain stands behind them, as the highest-numbered one with its jobs counted from 1, whatever chain and job numbers it
+ * had, and the answer is how many jobs the set has now. On no the answer is 0, and nothing is written. Refuses with 4 to 6 over the joined jobs,
+ * with 7 where the chain has none, with 10, then on yes with 9 where there is not room for all. */
+static inline int64_t cudlomer_jobs_admit(struct cudlomer_job *jobs, size_t room, size_t count, const struct cudlomer_job *chain,
+                                          size_t chain_count, uint64_t algorithm)
+{
+    return cudlomer_set_admit((uint64_t *)jobs, CUDLOMER_NUMBERS(cudlomer_job, room), count, (const uint64_t *)chain,
+                              CUDLOMER_NUMBERS(cudlomer_job, chain_count), algorithm);
+}
+
+/* Applies one tick to the state: of the jobs released by its time whose predecessor is complete, the most urgent runs, among equals that of the
+ * lowest chain. `times` is how long each job takes in this run, from its least to its most. Answers CUDLOMER_IDLE where none is ready;
+ * CUDLOMER_FINISHED where all were complete before, and the state then stays; else which job ran, for the three functions below. Refuses with 4
+ * to 7, with 8, then with 11 where the state has a time beyond CUDLOMER_LAST_TIME, or a job with more work than its time, or with work though its
+ * predecessor is not complete or the time is not after its release. */
+static inline int64_t cudlomer_jobs_tick(const struct cudlomer_job *jobs, size_t count, const uint64_t *times, size_t times_count,
+                                         struct cudlomer_state *state)
+{
+    return cudlomer_set_tick((const uint64_t *)jobs, CUDLOMER_NUMBERS(cudlomer_job, count), times, times_count, (uint64_t *)state,
+                             CUDLOMER_NUMBERS(cudlomer_state, 1));
+}
+
+/* Whether a tick that answered this ran a job. */
+static inline int cudlomer_ticked_ran(int64_t ticked)
+{
+    return ticked > CUDLOMER_FINISHED;
+}
+
+/* The chain of the job that a tick ran. */
+static inline uint64_t cudlomer_ticked_chain(int64_t ticked)
+{
+    return (uint64_t)ticked / 65536;
+}
+
+/* The number of the job that a tick ran, within its chain. */
+static inline uint64_t cudlomer_ticked_job(int64_t ticked)
+{
+    return (uint64_t)ticked % 65536;
+}
+
+/* Runs the set from time 0, with a running time for each job, and writes when each is complete. Answers the end of the run. Refuses with 4 to 7,
+ * with 8, then with 9 where there is not room for a completion for each job. It takes as long as cudlomer_trace. */
+static inline int64_t cudlomer_jobs_run(const struct cudlomer_job *jobs, size_t count, const uint64_t *times, size_t times_count,
+                                        uint64_t *completions, size_t room)
+{
+    return cudlomer_set_run((const uint64_t *)jobs, CUDLOMER_NUMBERS(cudlomer_job, count), times, times_count, completions, room);
+}
+
+/* Runs the set from time 0, with a running time for each job, and writes a row for each longest run of one job, the earliest first. Answers how
+ * many rows were written. Refuses with 4 to 7, with 8, then with 9 where there is not room for two rows for each job. */
+static inline int64_t cudlomer_jobs_trace(const struct cudlomer_job *jobs, size_t count, const uint64_t *times, size_t times_count,
+                                          struct cudlomer_row *rows, size_t room)
+{
+    return cudlomer_set_trace((const uint64_t *)jobs, CUDLOMER_NUMBERS(cudlomer_job, count), times, times_count, (uint64_t *)rows,
+                              CUDLOMER_NUMBERS(cudlomer_row, room));
+}
 
 #ifdef __cplusplus
 }

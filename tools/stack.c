@@ -1,28 +1,52 @@
-/* Runs each of the four functions on a stack of its own, filled beforehand, and checks that the table named takes less than 32 KB of it. */
+/* Runs each function on a stack of its own, filled beforehand, and checks that the table named takes less than 32 KB of it. For admission its last
+ * chain joins the others. */
 #include "cudlomer.h"
 #include <stdio.h>
 #include <string.h>
 #include <ucontext.h>
 
-enum { STACK = 128 * 1024, LIMIT = 32 * 1024, FUNCTIONS = 4, FILL = 0xa5 };
+enum { STACK = 128 * 1024, LIMIT = 32 * 1024, FILL = 0xa5 };
 
-static const char *const names[FUNCTIONS] = { "bounds", "trace", "verdict", "rounds" };
-static uint8_t text[4097], out[4096], stack[STACK];
-static size_t length;
-static int function;
+static uint8_t text[CUDLOMER_MAX_TEXT + 1], out[CUDLOMER_MAX_TEXT], stack[STACK];
+static struct cudlomer_job jobs[CUDLOMER_MAX_JOBS], held[CUDLOMER_MAX_JOBS];
+static struct cudlomer_row rows[CUDLOMER_MAX_ROWS];
+static struct cudlomer_state state;
+static uint64_t times[CUDLOMER_MAX_JOBS], figures[CUDLOMER_MAX_JOBS];
+static size_t length, count, held_count;
 static int64_t answer;
 static ucontext_t here, there;
 
-static void call(void)
+static void bounds(void) { answer = cudlomer_bounds(text, length, out, sizeof out); }
+static void trace(void) { answer = cudlomer_trace(text, length, out, sizeof out); }
+static void verdict(void) { answer = cudlomer_verdict(text, length, CUDLOMER_ITR); }
+static void rounds(void) { answer = cudlomer_rounds(text, length); }
+static void set_read(void) { answer = cudlomer_jobs_read(text, length, jobs, CUDLOMER_MAX_JOBS); }
+static void set_write(void) { answer = cudlomer_jobs_write(jobs, count, out, sizeof out); }
+static void set_bounds(void) { answer = cudlomer_jobs_bounds(jobs, count, CUDLOMER_ITR, figures, CUDLOMER_MAX_JOBS); }
+static void set_verdict(void) { answer = cudlomer_jobs_verdict(jobs, count, CUDLOMER_ITR); }
+static void set_rounds(void) { answer = cudlomer_jobs_rounds(jobs, count); }
+static void set_admit(void)
 {
-    answer = function == 0 ? cudlomer_bounds(text, length, out, sizeof out)
-           : function == 1 ? cudlomer_trace(text, length, out, sizeof out)
-           : function == 2 ? cudlomer_verdict(text, length, 3)
-                           : cudlomer_rounds(text, length);
+    answer = cudlomer_jobs_admit(held, CUDLOMER_MAX_JOBS, held_count, jobs + held_count, count - held_count, CUDLOMER_ITR);
 }
+static void set_tick(void) { answer = cudlomer_jobs_tick(jobs, count, times, count, &state); }
+static void set_run(void) { answer = cudlomer_jobs_run(jobs, count, times, count, figures, CUDLOMER_MAX_JOBS); }
+static void set_trace(void) { answer = cudlomer_jobs_trace(jobs, count, times, count, rows, CUDLOMER_MAX_ROWS); }
 
-/* How many bytes of the stack the call changes. */
-static size_t taken(void)
+static const struct function {
+    const char *name;
+    void (*call)(void);
+} functions[] = {
+    { "bounds", bounds },           { "trace", trace },           { "verdict", verdict },         { "rounds", rounds },
+    { "set_read", set_read },       { "set_write", set_write },   { "set_bounds", set_bounds },   { "set_verdict", set_verdict },
+    { "set_rounds", set_rounds },   { "set_admit", set_admit },   { "set_tick", set_tick },       { "set_run", set_run },
+    { "set_trace", set_trace },
+};
+
+enum { FUNCTIONS = sizeof functions / sizeof functions[0] };
+
+/* How many bytes of the stack a call changes. */
+static size_t taken(void (*call)(void))
 {
     size_t left = 0;
     memset(stack, FILL, sizeof stack);
@@ -37,6 +61,19 @@ static size_t taken(void)
     return sizeof stack - left;
 }
 
+/* The set of the text, all but its last chain as the one held, and each job's most time. */
+static void read_set(void)
+{
+    set_read();
+    count = answer < 0 ? 0 : (size_t)answer;
+    for (size_t i = 0; i < count; i++) {
+        held[i] = jobs[i];
+        times[i] = jobs[i].most;
+        if (jobs[i].job == 1)
+            held_count = i;
+    }
+}
+
 int main(int argc, char **argv)
 {
     int good = 0;
@@ -45,10 +82,11 @@ int main(int argc, char **argv)
         return 2;
     length = fread(text, 1, sizeof text, file);
     fclose(file);
-    for (function = 0; function < FUNCTIONS; function++) {
-        size_t bytes = taken();
+    read_set();
+    for (int n = 0; n < FUNCTIONS; n++) {
+        size_t bytes = taken(functions[n].call);
         good += answer >= 0 && bytes < LIMIT;
-        printf("stack: %s takes %zu bytes\n", names[function], bytes);
+        printf("stack: %s takes %zu bytes\n", functions[n].name, bytes);
     }
     printf("%d passed, %d failed\n", good, FUNCTIONS - good);
     return good < FUNCTIONS;

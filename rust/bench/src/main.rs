@@ -1,5 +1,6 @@
 //! Times the proved part and the plain reference in one run, on the same tables.
 
+use cudlomer::{Set, State, Ticked};
 use reference::{machine, table, text, Job};
 use std::hint::black_box;
 use std::time::Instant;
@@ -22,11 +23,7 @@ fn run_load(jobs: u64, chains: u64, release: u64, most: u64) -> Vec<Job> {
 }
 
 fn table_text(jobs: &[Job]) -> Vec<u8> {
-    let mut out = String::from(table::HEADER) + "\r\n";
-    for j in jobs {
-        out += &format!("{},{},{},{},{},{},{}\r\n", j.chain, j.job, j.release, j.priority, j.least, j.most, j.deadline);
-    }
-    out.into_bytes()
+    text::table_text(jobs).into_bytes()
 }
 
 /// How many (pair, job) steps the three bounds take: one scan over all jobs for each job by ERT, and one for each pair of a chain by CJA and
@@ -124,6 +121,31 @@ fn tick_times(jobs: u64, chains: u64) -> Vec<f64> {
     vec![times[0], times[1], plain / (jobs * 1_000) as f64]
 }
 
+/// What is timed of a run that a caller ticks through, the set being checked at each tick: a tick, and one of the plain reference.
+fn call_times(jobs: u64, chains: u64) -> Vec<f64> {
+    const MOST: u64 = 20;
+    let busy = run_load(jobs, chains, 0, MOST);
+    let set = Set::read(&table_text(&busy)).unwrap();
+    let times = set.times(|j| j.most);
+    let called = time(|| {
+        let mut state = State::START;
+        while black_box(set.tick(&times, &mut state).unwrap()) != Ticked::Finished {}
+    });
+    let most = vec![MOST; busy.len()];
+    let plain = time(|| {
+        let mut state = machine::State { time: 0, work: vec![0; busy.len()] };
+        loop {
+            machine::check(black_box(&busy), &most).unwrap();
+            if black_box(machine::tick(&busy, &most, &mut state).unwrap()) == machine::Ticked::Finished {
+                break;
+            }
+        }
+    });
+    // the tick that answers "finished" counts
+    let ticks = (jobs * MOST + 1) as f64;
+    vec![called / ticks, plain / ticks]
+}
+
 /// The least of each time over some passes, since a machine that others use is slow for seconds on end.
 fn least(measure: impl Fn(u64, u64) -> Vec<f64>, loads: &[(u64, u64)]) -> Vec<Vec<f64>> {
     let mut best: Vec<Vec<f64>> = vec![];
@@ -153,5 +175,9 @@ fn main() {
     let loads = [(6, 2), (64, 8)];
     for ((jobs, chains), times) in loads.iter().zip(&least(tick_times, &loads)) {
         println!("{jobs:2} jobs, {chains} chains: {:6.1} {:5.2} | {:6.1}", times[0], times[0] / times[2], times[1]);
+    }
+    println!("  ns a tick by a call, which checks the set, the times and the state: the part, the plain reference, ratio");
+    for ((jobs, chains), times) in loads.iter().zip(&least(call_times, &loads)) {
+        println!("{jobs:2} jobs, {chains} chains: {:6.1} {:6.1} {:5.2}", times[0], times[1], times[0] / times[1]);
     }
 }

@@ -1,6 +1,6 @@
-//! Tables and damaged texts from a seed.
+//! Tables, chains, running times and damaged texts from a seed.
 
-use reference::{table::HEADER, Job};
+use reference::{table::HEADER, text, Job};
 
 #[derive(Clone, Copy)]
 pub enum Kind {
@@ -19,6 +19,8 @@ pub enum Kind {
 }
 
 impl Kind {
+    pub const ALL: [Kind; 6] = [Kind::Small, Kind::Dense, Kind::Long, Kind::Wide, Kind::Late, Kind::Extreme];
+
     pub fn tables(self) -> usize {
         match self {
             Kind::Small => 1500,
@@ -45,8 +47,13 @@ impl Draw {
     }
 
     /// A number from `low` to `high`.
-    fn range(&mut self, low: u64, high: u64) -> u64 {
+    pub fn range(&mut self, low: u64, high: u64) -> u64 {
         low + self.next() % (high - low + 1)
+    }
+
+    /// Whether one draw of so many falls here.
+    pub fn one_in(&mut self, many: u64) -> bool {
+        self.next() % many == 0
     }
 
     /// A number at or near the greatest, or anywhere below it.
@@ -92,27 +99,39 @@ impl Draw {
         jobs
     }
 
+    /// A few jobs to join as a chain, whose own chain and job numbers are anything.
+    pub fn chain(&mut self, kind: Kind) -> Vec<Job> {
+        let count = self.range(1, 5) as usize;
+        self.jobs(kind).into_iter().take(count).map(|j| Job { chain: self.extreme(0, u64::MAX - 1), job: self.extreme(0, 3), ..j }).collect()
+    }
+
+    /// A running time for each job: all least, all most, or any from least to most.
+    pub fn times(&mut self, jobs: &[Job]) -> Vec<u64> {
+        match self.next() % 4 {
+            0 => jobs.iter().map(|j| j.least).collect(),
+            1 => jobs.iter().map(|j| j.most).collect(),
+            _ => jobs.iter().map(|j| self.extreme(j.least, j.most)).collect(),
+        }
+    }
+
     /// The text of a table; the last line lacks its end now and then.
     pub fn text(&mut self, jobs: &[Job]) -> Vec<u8> {
-        let mut out = String::from(HEADER);
-        for j in jobs {
-            out += &format!("\r\n{},{},{},{},{},{},{}", j.chain, j.job, j.release, j.priority, j.least, j.most, j.deadline);
+        let mut out = text::table_text(jobs).into_bytes();
+        if self.one_in(8) {
+            out.truncate(out.len() - 2);
         }
-        if self.next() % 8 != 0 {
-            out += "\r\n";
-        }
-        out.into_bytes()
+        out
     }
 
     /// The text with a few bytes changed, left out, put in or cut off.
-    pub fn damaged(&mut self, text: &[u8]) -> Vec<u8> {
+    pub fn damaged_text(&mut self, text: &[u8]) -> Vec<u8> {
         let mut out = text.to_vec();
         for _ in 0..self.range(1, 3) {
             if out.is_empty() {
                 break;
             }
             // the header is left alone mostly, so that the records are reached
-            let from = if self.next() % 8 == 0 { 0 } else { HEADER.len().min(out.len() - 1) };
+            let from = if self.one_in(8) { 0 } else { HEADER.len().min(out.len() - 1) };
             let at = self.range(from as u64, out.len() as u64 - 1) as usize;
             let byte = *b"0123456789,,,\r\n\r\n -a\x00\xff".get((self.next() % 22) as usize).unwrap();
             match self.next() % 4 {

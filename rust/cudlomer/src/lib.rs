@@ -1,37 +1,61 @@
-//! A safe wrapper over the C functions of the part.
+//! A safe wrapper over the C functions of the part: sets of jobs, and texts of tables. Nothing here allocates memory.
+//!
+//! A set comes from the text of a table, a further chain is admitted, and the loop ticks:
+//!
+//! ```
+//! use cudlomer::{Algorithm, Job, Set, State, Ticked};
+//!
+//! let table = b"chain,job,release,priority,least,most,deadline\r\n1,1,0,1,4,6,6\r\n1,2,1,1,2,2,9\r\n";
+//! let mut set = Set::read(table)?;
+//! let further = Job { release: 10, priority: 0, least: 2, most: 3, deadline: 20, ..Job::NONE };
+//! assert!(set.admit(&[further], Algorithm::Itr)?);
+//!
+//! let times = set.times(|job| job.most);
+//! let mut state = State::START;
+//! loop {
+//!     match set.tick(&times, &mut state)? {
+//!         Ticked::Ran { chain, job } => println!("job {job} of chain {chain}"),
+//!         Ticked::Idle => println!("idle"),
+//!         Ticked::Finished => break,
+//!     }
+//! }
+//! assert_eq!((state.time, &state.work[..3]), (13, &[6, 2, 3][..]));
+//! # Ok::<(), cudlomer::Refused>(())
+//! ```
 
-extern "C" {
-    fn cudlomer_bounds(text: *const u8, text_length: usize, out: *mut u8, out_length: usize) -> i64;
-    fn cudlomer_trace(text: *const u8, text_length: usize, out: *mut u8, out_length: usize) -> i64;
-    fn cudlomer_verdict(text: *const u8, text_length: usize, algorithm: u8) -> i64;
-    fn cudlomer_rounds(text: *const u8, text_length: usize) -> i64;
-}
+#![no_std]
+
+pub mod ffi;
+mod job;
+mod machine;
+mod set;
+mod text;
+
+pub use job::Job;
+pub use machine::{Row, Run, State, Ticked, Times, Trace};
+pub use set::{Algorithm, Set};
+pub use text::{bounds, rounds, trace, verdict};
+
+use core::fmt;
 
 /// The number of a refusal.
 #[derive(Clone, Copy, Debug, PartialEq, Eq)]
 pub struct Refused(pub u8);
 
+impl fmt::Display for Refused {
+    fn fmt(&self, f: &mut fmt::Formatter) -> fmt::Result {
+        write!(f, "refused with {}", self.0)
+    }
+}
+
+impl core::error::Error for Refused {}
+
+/// What a function answers: a number, or a refusal negated.
 fn answer(value: i64) -> Result<u64, Refused> {
     u64::try_from(value).map_err(|_| Refused(value.unsigned_abs() as u8))
 }
 
-/// Writes the bounds text of a table into a buffer, and answers how many bytes it takes.
-pub fn bounds(text: &[u8], out: &mut [u8]) -> Result<usize, Refused> {
-    // The function reads and writes within the two slices.
-    answer(unsafe { cudlomer_bounds(text.as_ptr(), text.len(), out.as_mut_ptr(), out.len()) }).map(|n| n as usize)
-}
-
-/// Writes the trace text of a table into a buffer, and answers how many bytes it takes.
-pub fn trace(text: &[u8], out: &mut [u8]) -> Result<usize, Refused> {
-    answer(unsafe { cudlomer_trace(text.as_ptr(), text.len(), out.as_mut_ptr(), out.len()) }).map(|n| n as usize)
-}
-
-/// Whether all deadlines of a table are met, by algorithm 1 ERT, 2 CJA or 3 ITR.
-pub fn verdict(text: &[u8], algorithm: u8) -> Result<bool, Refused> {
-    answer(unsafe { cudlomer_verdict(text.as_ptr(), text.len(), algorithm) }).map(|n| n == 1)
-}
-
-/// How many rounds ITR takes.
-pub fn rounds(text: &[u8]) -> Result<u64, Refused> {
-    answer(unsafe { cudlomer_rounds(text.as_ptr(), text.len()) })
+/// An answer that counts bytes or elements.
+fn counted(value: i64) -> Result<usize, Refused> {
+    answer(value).map(|n| n as usize)
 }

@@ -27,9 +27,20 @@ pub fn bounds(jobs: &[Job]) -> Bounds {
     Bounds { ert: ert(&chains, true).concat(), cja: cja(&chains, |_, _, _, _, _| true).concat(), itr: itr.concat(), rounds }
 }
 
-/// Whether each bound is at or before its job's deadline.
-pub fn meets(jobs: &[Job], bounds: &[u64]) -> bool {
-    jobs.iter().zip(bounds).all(|(j, b)| *b <= j.deadline)
+/// The bounds by algorithm 1 ERT, 2 CJA or 3 ITR; another is refused with 10.
+pub fn by(jobs: &[Job], algorithm: u64) -> Result<Vec<u64>, u8> {
+    let chains = chains(jobs);
+    match algorithm {
+        1 => Ok(ert(&chains, true).concat()),
+        2 => Ok(cja(&chains, |_, _, _, _, _| true).concat()),
+        3 => Ok(itr(&chains).0.concat()),
+        _ => Err(10),
+    }
+}
+
+/// Whether each bound by the algorithm is at or before its job's deadline.
+pub fn verdict(jobs: &[Job], algorithm: u64) -> Result<bool, u8> {
+    Ok(jobs.iter().zip(by(jobs, algorithm)?).all(|(j, bound)| bound <= j.deadline))
 }
 
 fn chains(jobs: &[Job]) -> Chains {

@@ -2,6 +2,7 @@
 
 pub mod bounds;
 pub mod machine;
+pub mod set;
 pub mod table;
 pub mod text;
 
@@ -15,4 +16,17 @@ pub struct Job {
     pub least: u64,
     pub most: u64,
     pub deadline: u64,
+}
+
+impl Job {
+    /// A job from its numbers in the order of a table's columns; one that is missing is 0.
+    pub fn of(numbers: &[u64]) -> Job {
+        let n = |i: usize| numbers.get(i).copied().unwrap_or(0);
+        Job { chain: n(0), job: n(1), release: n(2), priority: n(3), least: n(4), most: n(5), deadline: n(6) }
+    }
+
+    /// Its numbers in the order of a table's columns.
+    pub fn numbers(&self) -> [u64; 7] {
+        [self.chain, self.job, self.release, self.priority, self.least, self.most, self.deadline]
+    }
 }

@@ -1,6 +1,6 @@
 //! A job table's text.
 
-use crate::Job;
+use crate::{set, Job};
 
 pub const HEADER: &str = "chain,job,release,priority,least,most,deadline";
 
@@ -15,22 +15,11 @@ pub fn read(text: &[u8]) -> Result<Vec<Job>, u8> {
     }
     let mut jobs: Vec<Job> = Vec::new();
     for line in lines {
-        let v = fields(line).ok_or(3)?;
-        let job = Job { chain: v[0], job: v[1], release: v[2], priority: v[3], least: v[4], most: v[5], deadline: v[6] };
-        if jobs.len() == 64 {
-            return Err(4);
-        }
-        if !next_in_order(jobs.last(), &job) {
-            return Err(5);
-        }
-        if !within_limits(&job) {
-            return Err(6);
-        }
+        let job = Job::of(&fields(line).ok_or(3)?);
+        set::check_record(&jobs, &job)?;
         jobs.push(job);
     }
-    if jobs.is_empty() {
-        return Err(7);
-    }
+    set::any_record(&jobs)?;
     Ok(jobs)
 }
 
@@ -71,20 +60,4 @@ fn number(part: &[u8]) -> Option<u64> {
         return None;
     }
     std::str::from_utf8(part).ok()?.parse().ok()
-}
-
-fn next_in_order(last: Option<&Job>, job: &Job) -> bool {
-    match last {
-        None => (job.chain, job.job) == (1, 1),
-        Some(l) => (job.chain, job.job) == (l.chain, l.job + 1) || (job.chain, job.job) == (l.chain + 1, 1),
-    }
-}
-
-fn within_limits(j: &Job) -> bool {
-    j.chain <= 16
-        && j.release <= 1_000_000_000
-        && j.priority <= 255
-        && (1..=j.most).contains(&j.least)
-        && j.most <= 1_000_000
-        && j.deadline <= 4_000_000_000
 }

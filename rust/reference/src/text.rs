@@ -1,6 +1,14 @@
-//! What the programs print.
+//! The text of a table, and what the programs print.
 
-use crate::{bounds, machine, Job};
+use crate::{bounds, machine, table::HEADER, Job};
+
+pub fn table_text(jobs: &[Job]) -> String {
+    let mut out = String::from(HEADER) + "\r\n";
+    for j in jobs {
+        out += &format!("{},{},{},{},{},{},{}\r\n", j.chain, j.job, j.release, j.priority, j.least, j.most, j.deadline);
+    }
+    out
+}
 
 pub fn bounds_text(jobs: &[Job]) -> String {
     let b = bounds::bounds(jobs);
@@ -30,6 +38,7 @@ mod tests {
         let text = "chain,job,release,priority,least,most,deadline\r\n1,1,0,1,20,40,60\r\n1,2,20,3,5,10,60\r\n1,3,75,1,40,50,170\r\n\
                     1,4,130,3,85,85,260\r\n2,1,30,2,10,10,50\r\n2,2,60,2,50,50,120\r\n";
         let jobs = table::read(text.as_bytes()).unwrap();
+        assert_eq!(super::table_text(&jobs), text);
         assert_eq!(
             super::bounds_text(&jobs),
             "chain,job,ert,cja,itr,slack\r\n1,1,100,100,50,10\r\n1,2,110,110,60,0\r\n1,3,220,185,175,-5\r\n1,4,305,270,260,0\r\n\

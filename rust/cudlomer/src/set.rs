@@ -1,0 +1,132 @@
+//! Sets of jobs and what is asked of them.
+
+use crate::{answer, counted, ffi, Job, Refused, Run, State, Ticked, Times, Trace};
+
+/// The algorithms of Sun and Liu; a bound by ITR is at most that by CJA, which is at most that by ERT.
+#[derive(Clone, Copy, Debug, PartialEq, Eq)]
+pub enum Algorithm {
+    Ert = 1,
+    Cja = 2,
+    Itr = 3,
+}
+
+/// A set of jobs that has passed the checks 4 to 6, chain by chain. Where it is empty, everything but admission is refused with 7.
+#[derive(Clone, Copy, Debug, PartialEq, Eq)]
+pub struct Set {
+    jobs: [Job; Set::MAX_JOBS],
+    count: usize,
+}
+
+impl Set {
+    pub const MAX_JOBS: usize = 64;
+    pub const MAX_CHAINS: usize = 16;
+
+    /// The greatest length of a table's text in bytes.
+    pub const MAX_TEXT: usize = 4_096;
+
+    /// The set of no job, which a first chain may join.
+    pub const EMPTY: Set = Set { jobs: [Job::NONE; Set::MAX_JOBS], count: 0 };
+
+    /// The set of these jobs; refuses with 4 to 7.
+    pub fn of(jobs: &[Job]) -> Result<Set, Refused> {
+        // The function reads within the slice; jobs that pass are refused for the algorithm 0, which there is not.
+        let checked = unsafe { ffi::cudlomer_set_verdict(jobs.as_ptr().cast(), jobs.len() * Job::NUMBERS, 0) };
+        if checked != -10 {
+            answer(checked)?;
+        }
+        let mut set = Set { count: jobs.len(), ..Set::EMPTY };
+        set.jobs[..jobs.len()].copy_from_slice(jobs);
+        Ok(set)
+    }
+
+    /// The set of a table; refuses with 1 to 7.
+    pub fn read(text: &[u8]) -> Result<Set, Refused> {
+        let mut set = Set::EMPTY;
+        // The function reads within the slice and writes within the array, whose jobs are plain numbers.
+        let read = unsafe { ffi::cudlomer_set_read(text.as_ptr(), text.len(), set.jobs.as_mut_ptr().cast(), Set::MAX_JOBS * Job::NUMBERS) };
+        set.count = counted(read)?;
+        Ok(set)
+    }
+
+    /// Writes the text of the set's table into a buffer, and answers how many bytes it takes; refuses with 9 where it does not fit.
+    pub fn write(&self, out: &mut [u8]) -> Result<usize, Refused> {
+        // The function reads within the set's jobs and writes within the slice.
+        counted(unsafe { ffi::cudlomer_set_write(self.numbers(), self.length(), out.as_mut_ptr(), out.len()) })
+    }
+
+    /// The jobs, chain by chain.
+    pub fn jobs(&self) -> &[Job] {
+        &self.jobs[..self.count]
+    }
+
+    /// Whether all deadlines are met by the algorithm with a further chain, which then is the set's last; its jobs' own chain and job numbers are
+    /// ignored. Refuses with 4 to 6 of the joined jobs, and with 7 where the chain has none.
+    pub fn admit(&mut self, chain: &[Job], algorithm: Algorithm) -> Result<bool, Refused> {
+        let (room, held) = (Set::MAX_JOBS * Job::NUMBERS, self.count as u64);
+        let (further, length) = (chain.as_ptr().cast(), chain.len() * Job::NUMBERS);
+        // The function reads within the slice and the array, and writes within the array, whose jobs are plain numbers.
+        let joined = counted(unsafe { ffi::cudlomer_set_admit(self.jobs.as_mut_ptr().cast(), room, held, further, length, algorithm as u64) })?;
+        if joined > 0 {
+            self.count = joined;
+        }
+        Ok(joined > 0)
+    }
+
+    /// By when each job is complete in every run, by the algorithm.
+    pub fn bounds(&self, algorithm: Algorithm) -> Result<Times, Refused> {
+        let mut bounds = Times::NONE;
+        let out = bounds.ticks.as_mut_ptr();
+        // The function reads within the set's jobs and writes within the array.
+        bounds.count = counted(unsafe { ffi::cudlomer_set_bounds(self.numbers(), self.length(), algorithm as u64, out, Set::MAX_JOBS) })?;
+        Ok(bounds)
+    }
+
+    /// Whether all deadlines are met by the algorithm.
+    pub fn verdict(&self, algorithm: Algorithm) -> Result<bool, Refused> {
+        // The function reads within the set's jobs.
+        answer(unsafe { ffi::cudlomer_set_verdict(self.numbers(), self.length(), algorithm as u64) }).map(|n| n == 1)
+    }
+
+    /// How many rounds ITR takes.
+    pub fn rounds(&self) -> Result<u64, Refused> {
+        // The function reads within the set's jobs.
+        answer(unsafe { ffi::cudlomer_set_rounds(self.numbers(), self.length()) })
+    }
+
+    /// Applies one tick to a state; refuses with 8 where the running times do not fit the set, and with 11 where the state cannot be.
+    pub fn tick(&self, times: &Times, state: &mut State) -> Result<Ticked, Refused> {
+        let lent: *mut State = state;
+        // The function reads within the set's jobs and the times, and writes within the state, which is plain numbers.
+        let ticked = unsafe {
+            ffi::cudlomer_set_tick(self.numbers(), self.length(), times.ticks.as_ptr(), times.count, lent.cast(), State::NUMBERS)
+        };
+        answer(ticked).map(Ticked::of)
+    }
+
+    /// The run from time 0; refuses with 8 where the running times do not fit the set.
+    pub fn run(&self, times: &Times) -> Result<Run, Refused> {
+        let mut completions = Times { count: self.count, ..Times::NONE };
+        let out = completions.ticks.as_mut_ptr();
+        // The function reads within the set's jobs and the times, and writes within the array.
+        let end = unsafe { ffi::cudlomer_set_run(self.numbers(), self.length(), times.ticks.as_ptr(), times.count, out, Set::MAX_JOBS) };
+        Ok(Run { end: answer(end)?, completions })
+    }
+
+    /// The trace of the run from time 0; refuses with 8 where the running times do not fit the set.
+    pub fn trace(&self, times: &Times) -> Result<Trace, Refused> {
+        let mut trace = Trace::NONE;
+        let out = trace.rows.as_mut_ptr().cast();
+        // The function reads within the set's jobs and the times, and writes within the array, whose rows are plain numbers.
+        let rows = unsafe { ffi::cudlomer_set_trace(self.numbers(), self.length(), times.ticks.as_ptr(), times.count, out, Trace::NUMBERS) };
+        trace.count = counted(rows)?;
+        Ok(trace)
+    }
+
+    fn numbers(&self) -> *const u64 {
+        self.jobs.as_ptr().cast()
+    }
+
+    fn length(&self) -> usize {
+        self.count * Job::NUMBERS
+    }
+}

@@ -1,0 +1,71 @@
+//! The tables with known results of the scope, by the wrapper.
+
+use cudlomer::{Algorithm, Job, Refused, Row, Set, State, Ticked};
+
+const HEADER: &str = "chain,job,release,priority,least,most,deadline\r\n";
+
+fn read(records: &str) -> Set {
+    Set::read((HEADER.to_owned() + records).as_bytes()).unwrap()
+}
+
+fn p1() -> Set {
+    read("1,1,0,1,20,40,60\r\n1,2,20,3,5,10,60\r\n1,3,75,1,40,50,170\r\n1,4,130,3,85,85,260\r\n2,1,30,2,10,10,50\r\n2,2,60,2,50,50,120\r\n")
+}
+
+fn p4(deadline: u64) -> Job {
+    Job { chain: 1, job: 1, release: 5, priority: 1, least: 3, most: 7, deadline }
+}
+
+#[test]
+fn bounds_rounds_and_verdict_of_p1() {
+    let bounds = |algorithm| p1().bounds(algorithm).unwrap().iter().collect::<Vec<u64>>();
+    assert_eq!(bounds(Algorithm::Ert), [100, 110, 220, 305, 125, 260]);
+    assert_eq!(bounds(Algorithm::Cja), [100, 110, 185, 270, 125, 195]);
+    assert_eq!(bounds(Algorithm::Itr), [50, 60, 175, 260, 50, 110]);
+    assert_eq!((p1().rounds(), p1().verdict(Algorithm::Itr)), (Ok(2), Ok(false)));
+}
+
+#[test]
+fn trace_of_p2_and_run_of_p3() {
+    let rows = [(1, 1, 0, 30), (2, 1, 30, 40), (1, 1, 40, 50), (1, 2, 50, 60), (2, 2, 60, 110), (1, 3, 110, 160), (1, 4, 160, 245)];
+    let set = p1();
+    let times = set.times(|job| job.most);
+    assert_eq!(set.trace(&times).unwrap().rows(), rows.map(|(chain, job, from, to)| Row { chain, job, from, to }));
+    assert_eq!((set.run(&times).unwrap().completions[4], set.run(&times).unwrap().end), (40, 245));
+    let shorter = set.times(|job| if (job.chain, job.job) == (1, 1) { 30 } else { job.most });
+    assert_eq!(set.run(&shorter).unwrap().completions[4], 50);
+}
+
+#[test]
+fn deadlines_and_a_shorter_run_of_p4() {
+    let set = Set::of(&[p4(12)]).unwrap();
+    assert_eq!((set.verdict(Algorithm::Ert), Set::of(&[p4(11)]).unwrap().verdict(Algorithm::Ert)), (Ok(true), Ok(false)));
+    assert_eq!(set.run(&set.times(|job| job.least)).unwrap().end, 8);
+}
+
+#[test]
+fn a_chain_is_admitted_or_not() {
+    let mut set = Set::EMPTY;
+    assert_eq!(set.admit(&[p4(19)], Algorithm::Itr), Ok(true));
+    assert_eq!((set.admit(&[p4(18)], Algorithm::Itr), set.jobs().len()), (Ok(false), 1));
+    assert_eq!(set.admit(&[p4(19)], Algorithm::Itr), Ok(true));
+    assert_eq!(set.jobs(), [p4(19), Job { chain: 2, ..p4(19) }]);
+    let mut out = [0; 100];
+    let written = set.write(&mut out).unwrap();
+    assert_eq!(&out[..written], (HEADER.to_owned() + "1,1,5,1,3,7,19\r\n2,1,5,1,3,7,19\r\n").as_bytes());
+}
+
+#[test]
+fn refusals() {
+    let set = Set::of(&[p4(12)]).unwrap();
+    let times = set.times(|job| job.most);
+    assert_eq!(Set::read(b""), Err(Refused(2)));
+    assert_eq!(Set::of(&[p4(12); 65]), Err(Refused(5)));
+    assert_eq!(Set::of(&[Job { least: 0, ..p4(12) }]), Err(Refused(6)));
+    assert_eq!((Set::of(&[]), Set::EMPTY.rounds()), (Err(Refused(7)), Err(Refused(7))));
+    assert_eq!(set.run(&set.times(|job| job.most + 1)), Err(Refused(8)));
+    assert_eq!(set.write(&mut [0; 40]), Err(Refused(9)));
+    let mut late = State { time: State::LAST_TIME + 1, ..State::START };
+    assert_eq!(set.tick(&times, &mut late), Err(Refused(11)));
+    assert_eq!((set.tick(&times, &mut State::START.clone()), Refused(11).to_string()), (Ok(Ticked::Idle), "refused with 11".to_owned()));
+}

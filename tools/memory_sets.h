@@ -1,0 +1,142 @@
+/* The functions on sets, called with lent memory. */
+#ifndef MEMORY_SETS_H
+#define MEMORY_SETS_H
+
+#include "cudlomer.h"
+#include "draw.h"
+#include "lend.h"
+
+enum { WORD = sizeof(uint64_t), MOST_TICKS = 10, LONGEST_WORK = 5000 };
+
+static uint64_t algorithm, held;
+
+static int64_t set_write(struct ranges set, void *out, size_t size)
+{
+    return cudlomer_set_write(set.first, set.first_size / WORD, out, size);
+}
+
+static int64_t set_bounds(struct ranges set, void *out, size_t size)
+{
+    return cudlomer_set_bounds(set.first, set.first_size / WORD, algorithm, out, size / WORD);
+}
+
+static int64_t set_admit(struct ranges chain, void *jobs, size_t size)
+{
+    return cudlomer_set_admit(jobs, size / WORD, held, chain.first, chain.first_size / WORD, algorithm);
+}
+
+static int64_t set_tick(struct ranges timed, void *state, size_t size)
+{
+    return cudlomer_set_tick(timed.first, timed.first_size / WORD, timed.second, timed.second_size / WORD, state, size / WORD);
+}
+
+static int64_t set_run(struct ranges timed, void *out, size_t size)
+{
+    return cudlomer_set_run(timed.first, timed.first_size / WORD, timed.second, timed.second_size / WORD, out, size / WORD);
+}
+
+static int64_t set_trace(struct ranges timed, void *out, size_t size)
+{
+    return cudlomer_set_trace(timed.first, timed.first_size / WORD, timed.second, timed.second_size / WORD, out, size / WORD);
+}
+
+/* The text, the bounds, and the verdict and the rounds, which write nothing. */
+static void check_figures(const uint64_t *numbers, size_t length)
+{
+    struct ranges set = { numbers, NULL, length * WORD, 0 };
+    int64_t bytes = call_with_room(set_write, set);
+    check_sizes("set_write", set_write, set, 1, bytes < 0 ? 40 : (size_t)bytes, bytes);
+    for (algorithm = 0; algorithm <= 4; algorithm++) {
+        int64_t bounds = call_with_room(set_bounds, set);
+        check_sizes("set_bounds", set_bounds, set, WORD, bounds < 0 ? 40 : (size_t)bounds * WORD, bounds);
+        uint64_t *jobs = lend(FIRST, numbers, length * WORD);
+        int64_t verdict = cudlomer_set_verdict(jobs, length, algorithm), rounds = cudlomer_set_rounds(jobs, length);
+        count(bounds < 0 ? verdict == bounds : verdict == 0 || verdict == 1, "set_verdict");
+        count(bytes < 0 ? rounds == bytes : rounds >= 1 && rounds <= CUDLOMER_MAX_JOBS, "set_rounds");
+        count(returned(jobs, numbers, length * WORD), "the set that is read");
+    }
+}
+
+/* A chain for the jobs at the start of a set, with room for these alone, and from two numbers too few to two too many. */
+static void check_admission(const uint64_t *numbers, size_t length, const uint64_t *chain, size_t chain_length)
+{
+    struct ranges further = { chain, NULL, chain_length * WORD, 0 };
+    size_t exact = (length + chain_length) * WORD;
+    held = length / CUDLOMER_NUMBERS(cudlomer_job, 1);
+    memcpy(before, numbers, length * WORD);
+    for (algorithm = 0; algorithm <= 4; algorithm++) {
+        int64_t answer = call_with_room(set_admit, further);
+        size_t needed = answer == 0 ? 0 : exact; /* on no the room does not matter */
+        check_rest("set_admit", exact);
+        check_size("set_admit", set_admit, further, length * WORD, needed, answer);
+        for (size_t size = exact < 2 * WORD ? 0 : exact - 2 * WORD; size <= exact + 2 * WORD; size += WORD)
+            check_size("set_admit", set_admit, further, size, needed, answer);
+    }
+}
+
+/* The run as a whole and its trace, where there is little work, or where all is refused. */
+static void check_run(struct ranges timed)
+{
+    uint64_t work = 0;
+    for (size_t i = 0; i < timed.second_size / WORD; i++)
+        work += ((const uint64_t *)timed.second)[i];
+    if (work > LONGEST_WORK)
+        return;
+    size_t jobs = (timed.first_size + sizeof(struct cudlomer_job) - 1) / sizeof(struct cudlomer_job);
+    check_sizes("set_run", set_run, timed, WORD, jobs * WORD, call_with_room(set_run, timed));
+    check_sizes("set_trace", set_trace, timed, WORD, jobs * 2 * sizeof(struct cudlomer_row), call_with_room(set_trace, timed));
+}
+
+/* Ticks from a state on; beyond the jobs `before` holds what it did. */
+static void check_ticks(struct ranges timed, const uint64_t *state, size_t length)
+{
+    memcpy(before, state, length * WORD);
+    for (int ticks = 0; ticks < MOST_TICKS; ticks++) {
+        int64_t answer = call_with_room(set_tick, timed);
+        check_sizes("set_tick", set_tick, timed, WORD, sizeof(struct cudlomer_state), answer);
+        if (answer < 0 || answer == CUDLOMER_FINISHED)
+            return;
+        memcpy(before, after, ROOM);
+    }
+}
+
+/* Running times and a state of a set, each as they can be and damaged. */
+static void check_machine(const uint64_t *numbers, size_t length, const struct cudlomer_job *jobs, size_t jobs_count)
+{
+    uint64_t times[CUDLOMER_MAX_JOBS], state[1 + CUDLOMER_MAX_JOBS] = { 0 };
+    for (size_t i = 0; i < jobs_count; i++)
+        times[i] = draw(jobs[i].least, jobs[i].most);
+    struct ranges timed = { numbers, times, length * WORD, jobs_count * WORD };
+    check_run(timed);
+    check_ticks(timed, state, 1 + jobs_count);
+    damage_numbers(state, 1 + jobs_count);
+    check_ticks(timed, state, 1 + jobs_count);
+    timed.second_size = damage_numbers(times, jobs_count) * WORD;
+    check_run(timed);
+    check_ticks(timed, state, 1 + jobs_count);
+}
+
+/* Numbers that are a set, or were one before they were damaged, and the jobs that they were; the last jobs are also tried as a chain. */
+static void check_numbers_of(const uint64_t *numbers, size_t length, const struct cudlomer_job *jobs, size_t jobs_count)
+{
+    size_t chain = CUDLOMER_NUMBERS(cudlomer_job, draw(1, 2));
+    memset(before, FILL, ROOM);
+    check_figures(numbers, length);
+    check_machine(numbers, length, jobs, jobs_count);
+    if (length > chain) {
+        size_t first = (length - chain) / CUDLOMER_NUMBERS(cudlomer_job, 1) * CUDLOMER_NUMBERS(cudlomer_job, 1);
+        check_admission(numbers, first, numbers + first, length - first);
+    }
+    check_admission(numbers, 0, numbers, length);
+}
+
+static void check_set(const struct cudlomer_job *jobs, size_t jobs_count)
+{
+    uint64_t numbers[CUDLOMER_NUMBERS(cudlomer_job, CUDLOMER_MAX_JOBS)];
+    size_t length = CUDLOMER_NUMBERS(cudlomer_job, jobs_count);
+    memcpy(numbers, jobs, length * WORD);
+    check_numbers_of(numbers, length, jobs, jobs_count);
+    check_numbers_of(numbers, damage_numbers(numbers, length), jobs, jobs_count);
+}
+
+#endif
