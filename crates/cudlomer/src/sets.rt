@@ -1,13 +1,15 @@
-// The functions on a set in the caller's memory: reading, bounds, verdict and admission.
+// The functions on a set in the caller's memory: reading and writing, bounds, verdict and admission.
 ghost use Rattle.laws.specs.Words.{_≡_, _≤_, length};
 ghost use Rattle.jobs.specs.{Limits.maxJobs, Jobs.jobsOf};
 ghost use Rattle.analysis.specs.Answers.{verdictOf};
 ghost use Rattle.numbers.specs.Numbers.{heldSet, putCheck, putFrom};
-ghost use Rattle.cudlomer.specs.{Codes.checkedCode, Codes.verdictCode};
+ghost use Rattle.report.specs.Listing.{tableAnswer, tableLeft};
+ghost use Rattle.cudlomer.specs.{Codes.checkedCode, Codes.writtenCode, Codes.verdictCode};
 ghost use Rattle.cudlomer.specs.Sets.{jobsHere, readCode, readInto, boundsCode, boundsInto, roundsCode, admissionHere, admitCode, admitInto};
 use crate::codes::checked_code;
 use crate::codes::negated;
 use crate::codes::verdict_code;
+use crate::codes::written_code;
 use analysis::admission::admit;
 use analysis::answer::Verdict;
 use analysis::bounds::bounds;
@@ -19,6 +21,7 @@ use numbers::put::put;
 use numbers::set::held_set;
 use numbers::set::put_jobs;
 use numbers::set::set_in;
+use report::listing::table_text;
 
 // Writes the jobs of a set from place `from` on into memory, and answers how many the set has.
 fn put_set(set: JobSet, from: usize, memory: &mut [u64]) -> i64
@@ -49,6 +52,14 @@ pub extern "C" fn cudlomer_set_read(text: &[u8], jobs: &mut [u64]) -> i64
         return negated(refusal);
     }
     put_set(reading.set, 0, jobs)
+}
+
+// Writes the text of a table with the jobs in memory into out, and answers how many bytes it takes.
+#[no_mangle]
+pub extern "C" fn cudlomer_set_write(jobs: &[u64], out: &mut [u8]) -> i64
+    ensures { λ r. let js = jobsHere (now (jobs .entry)) in ⌜ (r ≡ writtenCode (tableAnswer js (now (out .entry)))) × (now (out .exit) ≡ tableLeft js (now (out .entry))) ⌝ }
+{
+    written_code(table_text(held_set(jobs), out))
 }
 
 // Writes the bound of each job by 1 ERT, 2 CJA or 3 ITR into out, and answers how many there are.

@@ -6,8 +6,7 @@ use native.Mathlib.Omega.{arith}
 use lib.ListN.{length, length-append}
 use borrow.Author.Needs.{needs}
 use Rattle.laws.specs.Words.{ascii}
-use Rattle.laws.proofs.Buffers.{Wrote, wrote-none, wrote-more, wrote-room, wrote-length}
-use Rattle.decimal.proofs.Writing.{written-short}
+use Rattle.laws.proofs.Buffers.{Wrote, wrote-none, wrote-more, wrote-room, wrote-length, written-short}
 use Rattle.jobs.specs.declared.refusal.Check.the-variants.{Passed}
 use Rattle.jobs.specs.Limits.{maxJobs}
 use Rattle.jobs.specs.Jobs.{jobsOf}
