@@ -1,14 +1,16 @@
--- A tick on a state in memory: too few numbers, a refusal that leaves the state as it was, and what a job that ran is called. Assumes nothing.
-use Prim.Native.Nat.{ℕ, zero, suc, _+_, _≤_, _<_}
+-- A tick on a state in memory: too few numbers, a refusal, what is written, and what a job that ran is called. Assumes nothing.
+use Prim.Native.Nat.{ℕ, zero, suc, _+_, _*_, _≤_, _<_}
 use mathlib.Core.Path.{_≡_, refl, sym, ap, subst, _∙_}
 use mathlib.Core.Bool.{Bool, true, false, cond}
 use mathlib.Core.List.{List, [], _∷_, _++_}
 use native.Mathlib.Omega.{arith}
-use lib.IntN.{ℤ}
+use lib.IntN.{ℤ, pos}
+use lib.Signed.{ltZ}
 use lib.ListN.{length, getD, take, drop, List·getD-eq-default, take-append-drop}
 use lib.Seq.{ext-getD, getD-take, length-take-le}
 use Rattle.laws.specs.Words.{tabulate, numberAt, patched, written}
-use Rattle.laws.proofs.Tests.{by-order}
+use borrow.Author.Tests.{le-ltb}
+use Rattle.laws.proofs.Tests.{by-order, both-ways}
 use Rattle.laws.proofs.Tabulate.{length-tabulate, getD-tabulate}
 use Rattle.laws.proofs.Buffers.{written-patched}
 use Rattle.jobs.specs.declared.job.Job.{Job}
@@ -29,7 +31,7 @@ use Rattle.machine.specs.declared.step.Stepped.{Stepped}
 use Rattle.machine.specs.Ticks.{allComplete, machineCheck, stateCheck, pick, ranAs, tickOf, stepOf}
 use Rattle.numbers.specs.Numbers.{stateSize, stateNumbers, stateIn, roomCheck}
 use Rattle.numbers.proofs.Rooms.{room-passes, room-short}
-use Rattle.cudlomer.specs.Codes.{refusalCode, tickedCode}
+use Rattle.cudlomer.specs.Codes.{refusalCode, chainStep, tickedCode}
 use Rattle.cudlomer.specs.Sets.{tickCheck, tickCode, tickInto}
 
 -- ---- a state of too few numbers
@@ -82,6 +84,29 @@ unfolding tickCheck tickCode tickInto stepOf
 tick-done js times memory after stepped h e q =
     let both = done-by (machineCheck js times) (stateCheck (tableOf js) times (stateIn memory)) (stateIn memory) (tickOf js times (stateIn memory)) memory (state-back memory h) in
     rw (← room-passes stateSize memory h) (ap (λ (x : Stepped). tickedCode (x .ticked)) e ∙ both .0, q ∙ ap (λ (x : Stepped). written (stateNumbers (x .state)) memory) e ∙ both .1)
+
+-- ---- a refused tick, whose answer alone is below zero
+none-below : (js : List Job) (complete : Bool) (e : Entry) → ltZ (tickedCode (cond complete Ticked.Finished (ranAs js e))) (pos 0) ≡ false
+none-below js true e = refl
+none-below js false idle = refl
+none-below js false (runs u) = le-ltb (jobAt js u .chain * chainStep + jobAt js u .job) 0 (omega arith)
+
+kept-by : (k j : Check) (s : State) (done : Stepped) → ltZ (tickedCode (done .ticked)) (pos 0) ≡ false → ltZ (tickedCode (stepBy (andThen k j) s done .ticked)) (pos 0) ≡ true → stepBy (andThen k j) s done .state ≡ s
+kept-by Passed Passed s done none below = absurd (both-ways below none)
+kept-by Passed (Refused r) s done none below = refl
+kept-by (Refused r) j s done none below = refl
+
+state-kept : (js : List Job) (times : List ℕ) (s : State) → ltZ (tickedCode (stepOf js times s .ticked)) (pos 0) ≡ true → stepOf js times s .state ≡ s
+unfolding stepOf tickOf
+state-kept js times s =
+    let t = tableOf js in
+    kept-by (machineCheck js times) (stateCheck t times s) s (tickOf js times s) (none-below js (allComplete times (s .work) (t .count)) (pick t times s))
+
+pub tick-refused : (js : List Job) (times memory : List ℕ) (stepped : Stepped) → stateSize ≤ length memory → stepped ≡ stepOf js times (stateIn memory) → ltZ (tickedCode (stepped .ticked)) (pos 0) ≡ true
+    → (tickedCode (stepped .ticked) ≡ tickCode js times memory) × (memory ≡ tickInto js times memory)
+tick-refused js times memory stepped h e below =
+    let kept : stepped .state ≡ stateIn memory = rw e (state-kept js times (stateIn memory) (rw e at below)) in
+    tick-done js times memory memory stepped h e (sym (ap (λ (s : State). written (stateNumbers s) memory) kept ∙ state-back memory h))
 
 -- ---- the chain and the job that ran have small numbers
 abbrev Small : Ticked → Type 0

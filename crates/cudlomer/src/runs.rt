@@ -31,7 +31,7 @@ fn short_state(set: JobSet, times: &[u64]) -> i64
     negated(Refusal::ShortBuffer)
 }
 
-// Applies one tick to the state in memory, which is as before on a refusal: 0 idle, 1 finished, the chain times 65,536 and the job where one ran.
+// Applies one tick to the state in memory: 0 idle, 1 finished, the chain times 65,536 and the job where one ran.
 #[no_mangle]
 pub extern "C" fn cudlomer_set_tick(jobs: &[u64], times: &[u64], state: &mut [u64]) -> i64
     ensures { λ r. let js = jobsHere (now (jobs .entry)) in ⌜ (r ≡ tickCode js (now (times .entry)) (now (state .entry))) × (now (state .exit) ≡ tickInto js (now (times .entry)) (now (state .entry))) ⌝ }
@@ -42,9 +42,13 @@ pub extern "C" fn cudlomer_set_tick(jobs: &[u64], times: &[u64], state: &mut [u6
     }
     let stepped = tick_kept(state_in(state), set, times);
     let ticked = stepped.ticked;
+    let code = ticked_code(ticked);
+    if code < 0 {
+        return code;
+    }
     let after = stepped.state;
     put_state(after, state);
-    ticked_code(ticked)
+    code
 }
 
 // Writes each job's completion into out, and answers the end of the run.
