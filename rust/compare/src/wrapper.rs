@@ -3,7 +3,7 @@
 use crate::draw::{Draw, Kind};
 use crate::is_short;
 use crate::tally::Tally;
-use cudlomer::{Algorithm, Job, Refused, Set, State, Ticked, Times};
+use cudlomer::{Algorithm, Job, Refused, Set, State, Ticked, Times, Verdict};
 use reference::{bounds, machine, set, text};
 
 pub fn compare(tally: &mut Tally, draw: &mut Draw, kind: Kind, jobs: &[reference::Job]) {
@@ -30,6 +30,11 @@ fn listed(times: Times) -> Vec<u64> {
     times.iter().collect()
 }
 
+/// Whether a verdict is yes, or the number of its refusal.
+fn said(verdict: Result<Verdict, Refused>) -> Result<bool, u8> {
+    verdict.map(|v| v == Verdict::Yes).map_err(|r| r.0)
+}
+
 /// The functions on texts, of the table and of no text.
 fn compare_texts(tally: &mut Tally, jobs: &[reference::Job]) {
     let table = text::table_text(jobs).into_bytes();
@@ -41,7 +46,7 @@ fn compare_texts(tally: &mut Tally, jobs: &[reference::Job]) {
         tally.same("trace", &jobs, written, Ok(text::trace_text(jobs).into_bytes()));
     }
     for algorithm in 0..=4 {
-        tally.same("verdict", &jobs, cudlomer::verdict(&table, algorithm).map_err(|r| r.0), bounds::verdict(jobs, algorithm.into()));
+        tally.same("verdict", &jobs, said(cudlomer::verdict(&table, algorithm)), bounds::verdict(jobs, algorithm.into()));
     }
     tally.same("rounds", &jobs, cudlomer::rounds(&table), Ok(bounds::bounds(jobs).rounds));
     let nothing = (cudlomer::bounds(&[], &mut out), cudlomer::trace(&[], &mut out), cudlomer::verdict(&[], 3), cudlomer::rounds(&[]));
@@ -56,7 +61,7 @@ fn compare_figures(tally: &mut Tally, set: &Set, jobs: &[reference::Job]) {
     for algorithm in [Algorithm::Ert, Algorithm::Cja, Algorithm::Itr] {
         let number = algorithm as u64;
         tally.same("Set::bounds", &jobs, set.bounds(algorithm).map(listed).map_err(|r| r.0), bounds::by(jobs, number));
-        tally.same("Set::verdict", &jobs, set.verdict(algorithm).map_err(|r| r.0), bounds::verdict(jobs, number));
+        tally.same("Set::verdict", &jobs, said(set.verdict(algorithm)), bounds::verdict(jobs, number));
     }
     tally.same("Set::rounds", &jobs, set.rounds(), Ok(bounds::bounds(jobs).rounds));
 }
@@ -64,7 +69,7 @@ fn compare_figures(tally: &mut Tally, set: &Set, jobs: &[reference::Job]) {
 fn compare_admission(tally: &mut Tally, held: &Set, jobs: &[reference::Job], chain: &[reference::Job]) {
     let own: Vec<Job> = chain.iter().map(job).collect();
     let mut joined = *held;
-    let answer = joined.admit(&own, Algorithm::Itr).map_err(|r| r.0);
+    let answer = said(joined.admit(&own, Algorithm::Itr));
     let wanted = set::admit(jobs, chain, 3);
     let left = wanted.as_ref().ok().and_then(Option::as_deref).unwrap_or(jobs);
     tally.same("Set::admit", &(jobs, chain), joined.jobs(), &left.iter().map(job).collect::<Vec<Job>>());

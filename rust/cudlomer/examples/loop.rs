@@ -1,7 +1,7 @@
 //! A maker's loop. Reads a set from a table, asks by ITR whether the jobs of a second table may come aboard as a further chain, and ticks until
 //! all jobs are complete, each after its most time. Prints what ran from when to when.
 
-use cudlomer::{Algorithm, Refused, Set, State, Ticked};
+use cudlomer::{Algorithm, Refused, Set, State, Ticked, Verdict};
 use std::process::exit;
 
 /// The answer of a call; a refusal ends the program.
@@ -54,7 +54,7 @@ fn main() {
     let mut set = read_set(table);
     if let Some(name) = names.get(1) {
         let admitted = accepted(name, set.admit(read_set(name).jobs(), Algorithm::Itr));
-        println!("{}", if admitted { "admitted" } else { "not admitted" });
+        println!("{}", if admitted == Verdict::Yes { "admitted" } else { "not admitted" });
     }
     run(&set);
 }

@@ -3,12 +3,12 @@
 //! A set comes from the text of a table, a further chain is admitted, and the loop ticks:
 //!
 //! ```
-//! use cudlomer::{Algorithm, Job, Set, State, Ticked};
+//! use cudlomer::{Algorithm, Job, Set, State, Ticked, Verdict};
 //!
 //! let table = b"chain,job,release,priority,least,most,deadline\r\n1,1,0,1,4,6,6\r\n1,2,1,1,2,2,9\r\n";
 //! let mut set = Set::read(table)?;
 //! let further = Job { release: 10, priority: 0, least: 2, most: 3, deadline: 20, ..Job::NONE };
-//! assert!(set.admit(&[further], Algorithm::Itr)?);
+//! assert_eq!(set.admit(&[further], Algorithm::Itr)?, Verdict::Yes);
 //!
 //! let times = set.times(|job| job.most);
 //! let mut state = State::START;
@@ -33,7 +33,7 @@ mod text;
 
 pub use job::Job;
 pub use machine::{Row, Run, State, Ticked, Times, Trace};
-pub use set::{Algorithm, Set};
+pub use set::{Algorithm, Set, Verdict};
 pub use text::{bounds, rounds, trace, verdict};
 
 use core::fmt;

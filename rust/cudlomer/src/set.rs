@@ -10,6 +10,24 @@ pub enum Algorithm {
     Itr = 3,
 }
 
+/// Whether all deadlines are met.
+#[derive(Clone, Copy, Debug, PartialEq, Eq)]
+pub enum Verdict {
+    Yes,
+    No,
+}
+
+impl Verdict {
+    /// The verdict of an answer, which is 0 for no.
+    pub(crate) fn of(answer: u64) -> Verdict {
+        if answer > 0 {
+            Verdict::Yes
+        } else {
+            Verdict::No
+        }
+    }
+}
+
 /// A set of jobs that has passed the checks 4 to 6, chain by chain. Where it is empty, everything but admission is refused with 7.
 #[derive(Clone, Copy, Debug, PartialEq, Eq)]
 pub struct Set {
@@ -59,9 +77,9 @@ impl Set {
         &self.jobs[..self.count]
     }
 
-    /// Whether all deadlines are met by the algorithm with a further chain, which then is the set's last; its jobs' own chain and job numbers are
+    /// Whether all deadlines are met by the algorithm with a further chain, which on yes is the set's last; its jobs' own chain and job numbers are
     /// ignored. Refuses with 4 to 6 of the joined jobs, and with 7 where the chain has none.
-    pub fn admit(&mut self, chain: &[Job], algorithm: Algorithm) -> Result<bool, Refused> {
+    pub fn admit(&mut self, chain: &[Job], algorithm: Algorithm) -> Result<Verdict, Refused> {
         let (room, held) = (Set::MAX_JOBS * Job::NUMBERS, self.count as u64);
         let (further, length) = (chain.as_ptr().cast(), chain.len() * Job::NUMBERS);
         // The function reads within the slice and the array, and writes within the array, whose jobs are plain numbers.
@@ -69,7 +87,7 @@ impl Set {
         if joined > 0 {
             self.count = joined;
         }
-        Ok(joined > 0)
+        Ok(Verdict::of(joined as u64))
     }
 
     /// By when each job is complete in every run, by the algorithm.
@@ -82,9 +100,9 @@ impl Set {
     }
 
     /// Whether all deadlines are met by the algorithm.
-    pub fn verdict(&self, algorithm: Algorithm) -> Result<bool, Refused> {
+    pub fn verdict(&self, algorithm: Algorithm) -> Result<Verdict, Refused> {
         // The function reads within the set's jobs.
-        answer(unsafe { ffi::cudlomer_set_verdict(self.numbers(), self.length(), algorithm as u64) }).map(|n| n == 1)
+        answer(unsafe { ffi::cudlomer_set_verdict(self.numbers(), self.length(), algorithm as u64) }).map(Verdict::of)
     }
 
     /// How many rounds ITR takes.

@@ -1,6 +1,6 @@
 //! The functions on the text of a table.
 
-use crate::{answer, counted, ffi, Refused};
+use crate::{answer, counted, ffi, Refused, Verdict};
 
 /// Writes the bounds text of a table into a buffer, and answers how many bytes it takes.
 pub fn bounds(text: &[u8], out: &mut [u8]) -> Result<usize, Refused> {
@@ -15,9 +15,9 @@ pub fn trace(text: &[u8], out: &mut [u8]) -> Result<usize, Refused> {
 }
 
 /// Whether all deadlines of a table are met, by algorithm 1 ERT, 2 CJA or 3 ITR.
-pub fn verdict(text: &[u8], algorithm: u8) -> Result<bool, Refused> {
+pub fn verdict(text: &[u8], algorithm: u8) -> Result<Verdict, Refused> {
     // The function reads within the slice.
-    answer(unsafe { ffi::cudlomer_verdict(text.as_ptr(), text.len(), algorithm) }).map(|n| n == 1)
+    answer(unsafe { ffi::cudlomer_verdict(text.as_ptr(), text.len(), algorithm) }).map(Verdict::of)
 }
 
 /// How many rounds ITR takes.

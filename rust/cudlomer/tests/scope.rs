@@ -1,6 +1,6 @@
 //! The tables with known results of the scope, by the wrapper.
 
-use cudlomer::{Algorithm, Job, Refused, Row, Set, State, Ticked};
+use cudlomer::{Algorithm, Job, Refused, Row, Set, State, Ticked, Verdict};
 
 const HEADER: &str = "chain,job,release,priority,least,most,deadline\r\n";
 
@@ -22,7 +22,7 @@ fn bounds_rounds_and_verdict_of_p1() {
     assert_eq!(bounds(Algorithm::Ert), [100, 110, 220, 305, 125, 260]);
     assert_eq!(bounds(Algorithm::Cja), [100, 110, 185, 270, 125, 195]);
     assert_eq!(bounds(Algorithm::Itr), [50, 60, 175, 260, 50, 110]);
-    assert_eq!((p1().rounds(), p1().verdict(Algorithm::Itr)), (Ok(2), Ok(false)));
+    assert_eq!((p1().rounds(), p1().verdict(Algorithm::Itr)), (Ok(2), Ok(Verdict::No)));
 }
 
 #[test]
@@ -39,16 +39,16 @@ fn trace_of_p2_and_run_of_p3() {
 #[test]
 fn deadlines_and_a_shorter_run_of_p4() {
     let set = Set::of(&[p4(12)]).unwrap();
-    assert_eq!((set.verdict(Algorithm::Ert), Set::of(&[p4(11)]).unwrap().verdict(Algorithm::Ert)), (Ok(true), Ok(false)));
+    assert_eq!((set.verdict(Algorithm::Ert), Set::of(&[p4(11)]).unwrap().verdict(Algorithm::Ert)), (Ok(Verdict::Yes), Ok(Verdict::No)));
     assert_eq!(set.run(&set.times(|job| job.least)).unwrap().end, 8);
 }
 
 #[test]
 fn a_chain_is_admitted_or_not() {
     let mut set = Set::EMPTY;
-    assert_eq!(set.admit(&[p4(19)], Algorithm::Itr), Ok(true));
-    assert_eq!((set.admit(&[p4(18)], Algorithm::Itr), set.jobs().len()), (Ok(false), 1));
-    assert_eq!(set.admit(&[p4(19)], Algorithm::Itr), Ok(true));
+    assert_eq!(set.admit(&[p4(19)], Algorithm::Itr), Ok(Verdict::Yes));
+    assert_eq!((set.admit(&[p4(18)], Algorithm::Itr), set.jobs().len()), (Ok(Verdict::No), 1));
+    assert_eq!(set.admit(&[p4(19)], Algorithm::Itr), Ok(Verdict::Yes));
     assert_eq!(set.jobs(), [p4(19), Job { chain: 2, ..p4(19) }]);
     let mut out = [0; 100];
     let written = set.write(&mut out).unwrap();
