@@ -1,18 +1,15 @@
 -- A tick on a state in memory: too few numbers, a refusal, what is written, and what a job that ran is called. Assumes nothing.
-use Prim.Native.Nat.{ℕ, zero, suc, _+_, _*_, _≤_, _<_}
+use Prim.Native.Nat.{ℕ, _+_, _*_, _≤_, _<_}
 use mathlib.Core.Path.{_≡_, refl, sym, ap, subst, _∙_}
 use mathlib.Core.Bool.{Bool, true, false, cond}
-use mathlib.Core.List.{List, [], _∷_, _++_}
+use mathlib.Core.List.{List}
 use native.Mathlib.Omega.{arith}
 use lib.IntN.{ℤ, pos}
 use lib.Signed.{ltZ}
-use lib.ListN.{length, getD, take, drop, List·getD-eq-default, take-append-drop}
-use lib.Seq.{ext-getD, getD-take, length-take-le}
-use Rattle.laws.specs.Words.{tabulate, numberAt, patched, written}
+use lib.ListN.{length, List·getD-eq-default}
 use borrow.Author.Tests.{le-ltb}
+use Rattle.laws.specs.Words.{written}
 use Rattle.laws.proofs.Tests.{by-order, both-ways}
-use Rattle.laws.proofs.Tabulate.{length-tabulate, getD-tabulate}
-use Rattle.laws.proofs.Buffers.{written-patched}
 use Rattle.jobs.specs.declared.job.Job.{Job}
 use Rattle.jobs.specs.declared.refusal.Refusal.the-variants.{ShortBuffer}
 use Rattle.jobs.specs.declared.refusal.Check.{Check}
@@ -29,8 +26,9 @@ use Rattle.machine.specs.declared.state.State.{State}
 use Rattle.machine.specs.declared.step.Ticked.{Ticked}
 use Rattle.machine.specs.declared.step.Stepped.{Stepped}
 use Rattle.machine.specs.Ticks.{allComplete, machineCheck, stateCheck, pick, ranAs, tickOf, stepOf}
-use Rattle.numbers.specs.Numbers.{stateSize, stateNumbers, stateIn, roomCheck}
+use Rattle.numbers.specs.Numbers.{stateSize, stateNumbers, stateIn}
 use Rattle.numbers.proofs.Rooms.{room-passes, room-short}
+use Rattle.numbers.proofs.States.{memory-back}
 use Rattle.cudlomer.specs.Codes.{refusalCode, chainStep, tickedCode}
 use Rattle.cudlomer.specs.Sets.{tickCheck, tickCode, tickInto}
 
@@ -44,28 +42,6 @@ pub tick-short : (js : List Job) (times memory : List ℕ) → length memory < s
     → (onPass (machineCheck js times) refusalCode (refusalCode ShortBuffer) ≡ tickCode js times memory) × (memory ≡ tickInto js times memory)
 unfolding tickCheck tickCode tickInto
 tick-short js times memory h = rw (← room-short stateSize memory h) (short-by (machineCheck js times) _ memory _)
-
--- ---- a state that is written back as it was read
-read-state : (memory : List ℕ) → stateSize ≤ length memory → stateNumbers (stateIn memory) ≡ take stateSize memory
-unfolding stateIn
-read-state memory h =
-    let work = tabulate 0 maxJobs (λ i. numberAt memory (i + 1)) in
-    let size : length work ≡ maxJobs = length-tabulate 0 maxJobs _ in
-    ext-getD 0 (numberAt memory 0 ∷ work) (take stateSize memory) (omega (arith, size, length-take-le stateSize memory h))
-    (λ i l. place memory i (omega (arith, size)))
-  where
-    place : (memory : List ℕ) (i : ℕ) → i < stateSize → getD (numberAt memory 0 ∷ tabulate 0 maxJobs (λ k. numberAt memory (k + 1))) i 0 ≡ getD (take stateSize memory) i 0
-    place memory zero l = sym (getD-take stateSize memory 0 0 l)
-    place memory (suc i) l =
-        getD-tabulate 0 maxJobs (λ k. numberAt memory (k + 1)) 0 i (omega arith) ∙ ap (numberAt memory) (omega arith) ∙ sym (getD-take stateSize memory (suc i) 0 l)
-
-state-back : (memory : List ℕ) → stateSize ≤ length memory → written (stateNumbers (stateIn memory)) memory ≡ memory
-unfolding patched
-state-back memory h =
-    let size : length (take stateSize memory) ≡ stateSize = length-take-le stateSize memory h in
-    let next : 0 + length (take stateSize memory) ≡ stateSize = omega (arith, size) in
-    rw (read-state memory h)
-    (written-patched (take stateSize memory) memory (omega (arith, size)) ∙ ap (λ (n : ℕ). take stateSize memory ++ drop n memory) next ∙ take-append-drop stateSize memory)
 
 -- ---- a state of enough numbers
 abbrev stepBy : Check → State → Stepped → Stepped
@@ -82,7 +58,7 @@ pub tick-done : (js : List Job) (times memory after : List ℕ) (stepped : Stepp
     → after ≡ written (stateNumbers (stepped .state)) memory → (tickedCode (stepped .ticked) ≡ tickCode js times memory) × (after ≡ tickInto js times memory)
 unfolding tickCheck tickCode tickInto stepOf
 tick-done js times memory after stepped h e q =
-    let both = done-by (machineCheck js times) (stateCheck (tableOf js) times (stateIn memory)) (stateIn memory) (tickOf js times (stateIn memory)) memory (state-back memory h) in
+    let both = done-by (machineCheck js times) (stateCheck (tableOf js) times (stateIn memory)) (stateIn memory) (tickOf js times (stateIn memory)) memory (memory-back memory h) in
     rw (← room-passes stateSize memory h) (ap (λ (x : Stepped). tickedCode (x .ticked)) e ∙ both .0, q ∙ ap (λ (x : Stepped). written (stateNumbers (x .state)) memory) e ∙ both .1)
 
 -- ---- a refused tick, whose answer alone is below zero
@@ -106,7 +82,7 @@ pub tick-refused : (js : List Job) (times memory : List ℕ) (stepped : Stepped)
     → (tickedCode (stepped .ticked) ≡ tickCode js times memory) × (memory ≡ tickInto js times memory)
 tick-refused js times memory stepped h e below =
     let kept : stepped .state ≡ stateIn memory = rw e (state-kept js times (stateIn memory) (rw e at below)) in
-    tick-done js times memory memory stepped h e (sym (ap (λ (s : State). written (stateNumbers s) memory) kept ∙ state-back memory h))
+    tick-done js times memory memory stepped h e (sym (ap (λ (s : State). written (stateNumbers s) memory) kept ∙ memory-back memory h))
 
 -- ---- the chain and the job that ran have small numbers
 abbrev Small : Ticked → Type 0

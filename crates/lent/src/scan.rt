@@ -1,6 +1,6 @@
 // The scan over lent job records, which changes none.
 // What is promised of one record holds for any jobs js, where the scan is of those before the place `at` and the record is the one there.
-ghost use Rattle.laws.specs.Words.{_≡_, ℕ, suc, _-_, _≤_, cond, _&&_, List, length, getD, leb, ltb, eqb};
+ghost use Rattle.laws.specs.Words.{_≡_, ℕ, suc, _-_, _≤_, cond, _&&_, List, length, leb, ltb, eqb};
 ghost use Rattle.jobs.specs.{Limits.maxJobs, Jobs.jobAt, Jobs.jobsOf};
 ghost use Rattle.theory.specs.Table.{tableOf};
 ghost use Rattle.machine.specs.{Ticks.readyIn, Ticks.bestUpTo};
@@ -10,6 +10,7 @@ use jobs::set::JobSet;
 use machine::pick::Best;
 use machine::pick::better_of;
 use machine::state::State;
+use numbers::number::number_at;
 
 // What a scan knows: the most urgent ready job so far and, of the last record, chain, least time, whether it is complete, and whether and how long released.
 struct Scan {
@@ -19,13 +20,6 @@ struct Scan {
     done: bool,
     released: bool,
     since: u64,
-}
-
-// The number at a place, 0 beyond the end.
-fn number_at(numbers: &[u64], at: usize) -> u64
-    ensures { λ r. ⌜ r ≡ getD (now (numbers .entry)) at 0 ⌝ }
-{
-    if at < numbers.len() { numbers[at] } else { 0 }
 }
 
 // The first number minus the second, 0 where that is larger.

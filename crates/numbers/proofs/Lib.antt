@@ -2,3 +2,5 @@ pub mod Places
 pub mod States
 pub mod Rooms
 pub mod Written
+pub mod RoundTrip
+pub mod Claims

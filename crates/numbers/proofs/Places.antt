@@ -1,10 +1,10 @@
 -- Jobs at their places in numbers: one read, all of them read into a set, and how many there are. Assumes nothing.
 use Prim.Native.Nat.{ℕ, _+_, _*_, _/_, _%_, _≤_, _<_, min}
-use mathlib.Core.Path.{_≡_, refl, sym, ap, ap₂, _∙_}
+use mathlib.Core.Path.{_≡_, ap, ap₂, _∙_}
 use mathlib.Core.List.{List, []}
 use native.Mathlib.Omega.{arith}
 use native.Mathlib.Nat.{add-zero}
-use lib.ListN.{length, getD, set}
+use lib.ListN.{length, set}
 use Rattle.laws.specs.Words.{tabulate, padded, numberAt}
 use Rattle.laws.proofs.Filling.{filled-none, filled-next}
 use Rattle.jobs.specs.declared.job.Job.{Job}

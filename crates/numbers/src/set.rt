@@ -1,7 +1,8 @@
 // A set as numbers: its jobs one after another, the numbers of each in the order of a table's columns.
-ghost use Rattle.laws.specs.Words.{_≡_, _+_, _*_, _≤_, _<_, length, getD, drop, patched};
+ghost use Rattle.laws.specs.Words.{_≡_, _+_, _*_, _≤_, _<_, length, drop, patched};
 ghost use Rattle.jobs.specs.{Limits.maxJobs, Jobs.jobsOf};
 ghost use Rattle.numbers.specs.Numbers.{jobSize, jobNumbers, numbersOf, jobIn, jobsHeld, setIn, heldSet, putCheck, putFrom};
+use crate::number::number_at;
 use crate::put::put_at;
 use jobs::job::Job;
 use jobs::refusal::Check;
@@ -10,16 +11,6 @@ use jobs::set::JobSet;
 
 // How many numbers a job takes.
 pub const JOB_SIZE: usize = 7;
-
-// The number at a place, 0 beyond the last.
-pub(crate) fn number_at(numbers: &[u64], at: usize) -> u64
-    ensures { λ r. ⌜ r ≡ getD (now (numbers .entry)) at 0 ⌝ }
-{
-    if at < numbers.len() {
-        return numbers[at];
-    }
-    0
-}
 
 // The job at place i.
 fn job_in(numbers: &[u64], i: usize) -> Job

@@ -1,8 +1,8 @@
 // A machine's state as numbers: the time, then the work of each place.
 ghost use Rattle.laws.specs.Words.{_≡_, written};
 ghost use Rattle.numbers.specs.Numbers.{stateSize, stateNumbers, stateIn, roomCheck};
+use crate::number::number_at;
 use crate::put::put_at;
-use crate::set::number_at;
 use jobs::refusal::Check;
 use jobs::refusal::Refusal;
 use jobs::set::JobSet;

@@ -16,7 +16,7 @@ short-state-requires : tie.Need-short-state-requires
 short-state-requires c κs = search needs
 
 returns : tie.Need-returns
-returns c = 
+returns c =
     let short = tick-short _ _ _ (c .before .if1 .taken) in
     rw (← c .before .before .held-set .ensures) (handed-on (record { sfits = c .short-state .ok }) (c .short-state .ensures) ∙ short .0, short .1)
 
@@ -33,7 +33,7 @@ same-length : tie.Need-same-length
 same-length c = search needs
 
 returns-2 : tie.Need-returns-2
-returns-2 c = 
+returns-2 c =
     let fits = c .before .before .before .before .before in
     let kept = c .before .before in
     let times = fits .before .before .before .before .before .args .times .now in
@@ -49,7 +49,7 @@ same-length-2 : tie.Need-same-length-2
 same-length-2 c = search needs
 
 returns-3 : tie.Need-returns-3
-returns-3 c = 
+returns-3 c =
     let fits = c .before .before .before .before .before .before .before .before .before .before in
     let kept = c .before .before .before .before .before .before .before in
     let times = fits .before .before .before .before .before .args .times .now in

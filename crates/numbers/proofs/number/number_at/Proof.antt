@@ -1,9 +1,9 @@
--- `number_at` meets its contract. Assumes nothing.
+-- `number_at` answers `numberAt`. Assumes nothing.
 use mathlib.Core.Path.{sym}
 use lib.ListN.{List·getD-eq-default}
 use borrow.Author.Needs.{needs}
-use Rattle.lent.proofs.scan.number_at.Statement.{statement}
-use Rattle.lent.proofs.scan.number_at.Tie as tie
+use Rattle.numbers.proofs.number.number_at.Statement.{statement}
+use Rattle.numbers.proofs.number.number_at.Tie as tie
 
 mul-result : tie.Need-mul-result
 mul-result c = search needs
