@@ -1,10 +1,9 @@
 -- A set that a chain is admitted to has no more jobs than a set may have. Assumes nothing.
 use Prim.Native.Nat.{ℕ, _≤_}
 use mathlib.Core.Path.{_≡_, refl, sym, ap, _∙_}
-use mathlib.Core.List.{List, []}
+use mathlib.Core.List.{[]}
 use native.Mathlib.Omega.{arith}
 use lib.ListN.{length}
-use Rattle.jobs.specs.declared.job.Job.{Job}
 use Rattle.jobs.specs.declared.set.JobSet.{JobSet}
 use Rattle.jobs.specs.declared.refusal.Check.{Check}
 use Rattle.jobs.specs.declared.refusal.Check.the-variants.{Passed, Refused}

@@ -1,6 +1,6 @@
 -- Bounds and rounds as C sees them: what is refused, and what an answer that passes holds. Assumes nothing.
 use Prim.Native.Nat.{ℕ, _-_, _≤_}
-use mathlib.Core.Path.{_≡_, refl, sym, ap, ap₂, _∙_}
+use mathlib.Core.Path.{_≡_, refl, sym, ap, _∙_}
 use mathlib.Core.Option.{Option, none, some}
 use mathlib.Core.List.{List}
 use native.Mathlib.Omega.{arith}
@@ -22,8 +22,8 @@ use Rattle.jobs.specs.Jobs.{jobsOf}
 use Rattle.jobs.specs.Checks.{checkOf}
 use Rattle.jobs.proofs.Sets.{length-jobs}
 use Rattle.jobs.proofs.Accepted.{accepted}
-use Rattle.theory.specs.Table.{Table, tableOf}
-use Rattle.theory.specs.Bounds.{ert, cja, itr}
+use Rattle.theory.specs.Table.{tableOf}
+use Rattle.theory.specs.Bounds.{cja, itr}
 use Rattle.theory.proofs.Rules.{always, length-ert, length-cja, length-after}
 use Rattle.theory.proofs.Settling.{itr-settled}
 use Rattle.theory.proofs.Claims.{claims}

@@ -1,7 +1,7 @@
 -- What C gets of a set that stands in its memory as numbers: the answer of each function, and what it leaves in memory.
 -- Numbers in memory are a set or a state as crates/numbers/specs says. Assumes nothing.
 use Rattle.laws.specs.Words.{ℕ, List, ℤ, pos, length, take, written}
-use Rattle.jobs.specs.declared.{job.Job.Job, refusal.Refusal.Refusal, refusal.Check.Check}
+use Rattle.jobs.specs.declared.{job.Job.Job, refusal.Check.Check}
 use Rattle.jobs.specs.{Refusals.onPass, Refusals.andThen, Jobs.jobsOf, Checks.checkOf}
 use Rattle.table.specs.Tables.{onTable}
 use Rattle.theory.specs.{Table.tableOf, Bounds.itr}

@@ -36,19 +36,28 @@ same-length c = search needs
 returns : tie.Need-returns
 returns c =
     let put = c .before .before .put-set in
-    rw (← c .before .before .before .before .before .before .before .before .set-in .ensures, ← c .before .before .before .before .before .before .before .held-set .ensures, ← c .before .before .before .before .before .before .admit .ensures, c .before .before .before .before .enum-told .given .1) (handed-on (record { sfits = put .ok }) (put .ensures .0), put .ensures .1)
+    let told = c .before .before .before .before in
+    let admitted = told .before .before in
+    rw (← admitted .before .before .set-in .ensures, ← admitted .before .held-set .ensures, ← admitted .admit .ensures, told .enum-told .given .1)
+    (handed-on (record { sfits = put .ok }) (put .ensures .0), put .ensures .1)
 
 same-length-2 : tie.Need-same-length-2
 same-length-2 c = search needs
 
 returns-2 : tie.Need-returns-2
-returns-2 c = rw (← c .before .before .before .before .set-in .ensures, ← c .before .before .before .held-set .ensures, ← c .before .before .admit .ensures, c .enum-told2 .given .1) (refl, refl)
+returns-2 c =
+    let admitted = c .before .before in
+    rw (← admitted .before .before .set-in .ensures, ← admitted .before .held-set .ensures, ← admitted .admit .ensures, c .enum-told2 .given .1) (refl, refl)
 
 same-length-3 : tie.Need-same-length-3
 same-length-3 c = search needs
 
 returns-3 : tie.Need-returns-3
-returns-3 c = rw (← c .before .before .before .before .before .before .set-in .ensures, ← c .before .before .before .before .before .held-set .ensures, ← c .before .before .before .before .admit .ensures, c .before .before .verdict .given .1) (handed-on (record { sfits = c .negated .ok }) (c .negated .ensures), refl)
+returns-3 c =
+    let told = c .before .before in
+    let admitted = told .before .before in
+    rw (← admitted .before .before .set-in .ensures, ← admitted .before .held-set .ensures, ← admitted .admit .ensures, told .verdict .given .1)
+    (handed-on (record { sfits = c .negated .ok }) (c .negated .ensures), refl)
 
 pub cudlomer-set-admit-spec : {M : Type 1} → statement M
 cudlomer-set-admit-spec =

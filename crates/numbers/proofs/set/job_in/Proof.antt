@@ -48,7 +48,17 @@ number-at-requires-7 c κs = search needs
 
 returns : tie.Need-returns
 returns c =
-    job-read _ _ _ _ _ _ _ _ _ (c .before .before .before .before .before .before .number-at .ensures) (c .before .before .before .before .before .number-at2 .ensures) (c .before .before .before .before .number-at3 .ensures) (c .before .before .before .number-at4 .ensures) (c .before .before .number-at5 .ensures) (c .before .number-at6 .ensures) (c .number-at7 .ensures)
+    let fifth = c .before .before in
+    let third = fifth .before .before in
+    let first = third .before .before in
+    job-read _ _ _ _ _ _ _ _ _
+    (first .number-at .ensures)
+    (third .before .number-at2 .ensures)
+    (third .number-at3 .ensures)
+    (fifth .before .number-at4 .ensures)
+    (fifth .number-at5 .ensures)
+    (c .before .number-at6 .ensures)
+    (c .number-at7 .ensures)
 
 pub job-in-spec : {M : Type 1} → statement M
 job-in-spec =

@@ -22,10 +22,16 @@ same-length : tie.Need-same-length
 same-length c = search needs
 
 returns-3 : tie.Need-returns-3
-returns-3 c = let h = length-jobs (c .before .before .before .before .before .before .before .before .args .set) in jobs-fit _ _ _ _ (omega (arith, h, c .before .before .before .before .before .before .if1 .left)) (omega (arith, h, c .before .before .before .before .before .if2 .left)) (c .before .before .put-rest .ensures)
+returns-3 c =
+    let fits = c .before .before .before .before .before in
+    let h = length-jobs (fits .before .before .before .args .set) in
+    jobs-fit _ _ _ _ (omega (arith, h, fits .before .if1 .left)) (omega (arith, h, fits .if2 .left)) (c .before .before .put-rest .ensures)
 
 returns-4 : tie.Need-returns-4
-returns-4 c = let h = length-jobs (c .before .before .before .before .args .set) in jobs-fit _ _ _ _ (omega (arith, h, c .before .before .if1 .left)) (omega (arith, h, c .before .if2 .left)) (jobs-none _ _ _ (omega (arith, h, c .if3 .left)))
+returns-4 c =
+    let fits = c .before in
+    let h = length-jobs (fits .before .before .before .args .set) in
+    jobs-fit _ _ _ _ (omega (arith, h, fits .before .if1 .left)) (omega (arith, h, fits .if2 .left)) (jobs-none _ _ _ (omega (arith, h, c .if3 .left)))
 
 pub put-jobs-spec : {M : Type 1} → statement M
 put-jobs-spec =
