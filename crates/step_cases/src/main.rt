@@ -3,7 +3,7 @@
 // A line tells the answer and the state after it, the second line the most urgent ready job of the lent records too.
 ghost use Prim.Native.Nat.{_+_, _<_, _^_};
 
-mod numbers;
+mod lines;
 mod print;
 mod steps;
 

@@ -2,8 +2,8 @@
 ghost use mathlib.Core.Path.{_≡_};
 ghost use lib.ListN.{length};
 ghost use Rattle.jobs.specs.Limits.{maxJobs};
-use crate::numbers::Numbers;
-use crate::numbers::numbers_of;
+use crate::lines::Numbers;
+use crate::lines::numbers_of;
 use crate::print::print;
 use crate::print::print_column;
 use crate::print::print_number;
@@ -16,6 +16,7 @@ use machine::state::State;
 use machine::step::Stepped;
 use machine::step::Ticked;
 use machine::step::step;
+use numbers::state::state_in;
 
 // The first numbers, of which as many are lent as the first line has; lending the array needs its length.
 fn times_of(numbers: Numbers) -> [u64; JobSet::MAX_JOBS]
@@ -32,17 +33,12 @@ fn times_of(numbers: Numbers) -> [u64; JobSet::MAX_JOBS]
 
 // The second line of the numbers: the time, then the work of each job from the first.
 fn state_of(numbers: Numbers) -> State {
-    let mut state = State::start();
+    let values = numbers.values;
     let first = numbers.first;
     if first <= JobSet::MAX_JOBS {
-        state.time = numbers.values[first];
-        let mut i: usize = 0;
-        while i < JobSet::MAX_JOBS {
-            state.work[i] = numbers.values[first + 1 + i];
-            i += 1;
-        }
+        return state_in(&values[first..]);
     }
-    state
+    State::start()
 }
 
 // A job by its chain and number.

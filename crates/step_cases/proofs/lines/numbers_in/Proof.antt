@@ -2,8 +2,8 @@
 use Prim.Native.Nat.{_-_, _≤_}
 use lib.ListN.{length}
 use borrow.Author.Needs.{needs}
-use Rattle.step_cases.proofs.numbers.numbers_in.Statement.{statement}
-use Rattle.step_cases.proofs.numbers.numbers_in.Tie as tie
+use Rattle.step_cases.proofs.lines.numbers_in.Statement.{statement}
+use Rattle.step_cases.proofs.lines.numbers_in.Tie as tie
 
 abbrev Inv-loop : tie.InvT-loop
 Inv-loop text numbers₀ i₀ numbers i = 0 ≤ i
