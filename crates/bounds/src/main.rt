@@ -2,9 +2,9 @@
 use libc::STDIN_FILENO;
 use libc::STDOUT_FILENO;
 use report::bounds::bounds_text;
-use report::refused::ready_to_print;
-use report::written::MAX_BYTES;
+use report::room::MAX_BYTES;
 use table::reading::MAX_TEXT;
+use texts::refused::ready_to_print;
 
 // A buffer of one byte more than the limit tells a text that is too long.
 fn main() {

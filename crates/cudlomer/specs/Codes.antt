@@ -3,7 +3,7 @@ use Rattle.laws.specs.Words.{ℕ, _+_, _*_, ℤ, pos, negℤ}
 use Rattle.jobs.specs.{declared.refusal.Refusal.Refusal, declared.refusal.Check.Check, Refusals.numberOf, Refusals.onPass}
 use Rattle.analysis.specs.declared.answer.Verdict.{Verdict}
 use Rattle.machine.specs.declared.{step.Ticked.Ticked, trace.Traced.Traced}
-use Rattle.report.specs.declared.written.Written.{Written}
+use Rattle.texts.specs.declared.written.Written.{Written}
 
 -- The number of the refusal, negated.
 abbrev pub refusalCode : Refusal → ℤ

@@ -1,3 +1,3 @@
 pub mod Codes
-pub mod Texts
+pub mod Tables
 pub mod Sets

@@ -8,7 +8,7 @@ use jobs::refusal::Check;
 use jobs::refusal::Refusal;
 use machine::step::Ticked;
 use machine::trace::Traced;
-use report::written::Written;
+use texts::written::Written;
 
 // By how much the code of a job that ran grows from chain to chain.
 pub const CHAIN_STEP: u64 = 65536;

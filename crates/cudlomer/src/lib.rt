@@ -2,4 +2,4 @@
 mod codes;
 pub mod runs;
 pub mod sets;
-pub mod texts;
+pub mod tables;

@@ -1,13 +1,15 @@
-// The functions that run a set in the caller's memory: one tick, the run and its trace.
+// The functions that run a set in the caller's memory: one tick, the run, its trace and its waveform.
 ghost use Rattle.laws.specs.Words.{_≡_, length};
 ghost use Rattle.jobs.specs.{declared.refusal.Refusal.Refusal, Refusals.onPass, Jobs.jobsOf};
 ghost use Rattle.machine.specs.{Ticks.machineCheck, Runs.traceOf, Runs.tracedIn};
-ghost use Rattle.cudlomer.specs.{Codes.refusalCode, Codes.tracedCode};
+ghost use Rattle.waveform.specs.Answers.{waveformAnswer, waveformLeft};
+ghost use Rattle.cudlomer.specs.{Codes.refusalCode, Codes.tracedCode, Codes.writtenCode};
 ghost use Rattle.cudlomer.specs.Sets.{jobsHere, tickCode, tickInto, runCode, runInto};
 use crate::codes::checked_code;
 use crate::codes::negated;
 use crate::codes::ticked_code;
 use crate::codes::traced_code;
+use crate::codes::written_code;
 use jobs::refusal::Check;
 use jobs::refusal::Refusal;
 use jobs::set::JobSet;
@@ -20,6 +22,7 @@ use numbers::set::held_set;
 use numbers::state::STATE_SIZE;
 use numbers::state::put_state;
 use numbers::state::state_in;
+use waveform::waveform::write_waveform;
 
 // The refusal of a tick on a state of too few numbers: that of the set or of its running times, else 9.
 fn short_state(set: JobSet, times: &[u64]) -> i64
@@ -73,4 +76,12 @@ pub extern "C" fn cudlomer_set_trace(jobs: &[u64], times: &[u64], out: &mut [u64
     ensures { λ r. let js = jobsHere (now (jobs .entry)) in ⌜ (r ≡ tracedCode (traceOf js (now (times .entry)) (length (now (out .entry))))) × (now (out .exit) ≡ tracedIn js (now (times .entry)) (now (out .entry))) ⌝ }
 {
     traced_code(trace(held_set(jobs), times, out))
+}
+
+// Writes the waveform of the run into out, and answers how many bytes it takes.
+#[no_mangle]
+pub extern "C" fn cudlomer_set_waveform(jobs: &[u64], times: &[u64], out: &mut [u8]) -> i64
+    ensures { λ r. let js = jobsHere (now (jobs .entry)) in ⌜ (r ≡ writtenCode (waveformAnswer js (now (times .entry)) (now (out .entry)))) × (now (out .exit) ≡ waveformLeft js (now (times .entry)) (now (out .entry))) ⌝ }
+{
+    written_code(write_waveform(held_set(jobs), times, out))
 }

@@ -1,4 +1,5 @@
 pub mod Digits
+pub mod Absence
 pub mod Counts
 pub mod Values
 pub mod Writing

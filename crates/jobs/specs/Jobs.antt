@@ -1,5 +1,5 @@
 -- Jobs and the sets that hold them. Document 01, "A job table", and "A form for each place". Assumes nothing.
-use Rattle.laws.specs.Words.{ℕ, List, length, getD, tabulate, padded}
+use Rattle.laws.specs.Words.{ℕ, Bool, _&&_, List, map, eqb, length, getD, firstBelow, tabulate, padded}
 use Rattle.jobs.specs.{declared.job.Job.Job, declared.set.JobSet.JobSet, Limits.maxJobs}
 
 -- A job by its numbers and values, in the order of a table's columns.
@@ -13,6 +13,18 @@ noJob = job 0 0 0 0 0 0 0
 -- The job at a place, and no job beyond the last.
 abbrev pub jobAt : List Job → ℕ → Job
 jobAt js i = getD js i noJob
+
+-- Whether a job has these numbers.
+abbrev pub isJob : Job → ℕ → ℕ → Bool
+isJob j chain number = eqb (j .chain) chain && eqb (j .job) number
+
+-- The place of the job with these numbers, and the number of jobs where there is none.
+unfoldable pub placeIn : List Job → ℕ → ℕ → ℕ
+placeIn js chain number = firstBelow (length js) (λ i. isJob (jobAt js i) chain number)
+
+-- The most time of each job, in table order.
+unfoldable pub mostTimes : List Job → List ℕ
+mostTimes js = map (λ (j : Job). j .most) js
 
 -- How urgent a job is: its priority; a greater number is more urgent.
 unfoldable pub urgencyOf : Job → ℕ

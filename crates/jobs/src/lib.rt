@@ -2,6 +2,8 @@
 pub mod check;
 pub mod job;
 pub mod join;
+pub mod most;
+pub mod place;
 pub mod record;
 pub mod refusal;
 pub mod set;

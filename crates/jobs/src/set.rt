@@ -1,6 +1,6 @@
 // A set of jobs, by value. Places from count on hold no job.
-ghost use Rattle.laws.specs.Words.{_≡_, []};
-ghost use Rattle.jobs.specs.Jobs.{setOf};
+ghost use Rattle.laws.specs.Words.{_≡_, min, []};
+ghost use Rattle.jobs.specs.{Limits.maxJobs, Jobs.setOf};
 use crate::job::Job;
 
 pub struct JobSet {
@@ -22,4 +22,14 @@ impl JobSet {
             count: 0,
         }
     }
+}
+
+// How many records a set has that counts so many: no more than there are places.
+pub(crate) fn held(count: usize) -> usize
+    ensures { λ r. ⌜ r ≡ min count maxJobs ⌝ }
+{
+    if JobSet::MAX_JOBS < count {
+        return JobSet::MAX_JOBS;
+    }
+    count
 }

@@ -83,7 +83,7 @@ unfolding byDefinition
 figures c check by-ert by-cja by-itr rounds jobs verdict runs =
     rw (known-by (jobsIn c) by-ert by-cja by-itr, jobs, check, rounds, by-itr, verdict, settled-runs (jobsIn c) (c .2) runs)
 
-first-and-rest : {A : Type 0} {x y : A} {xs ys : List A} → x ≡ y → xs ≡ ys → x ∷ xs ≡ y ∷ ys
+pub first-and-rest : {A : Type 0} {x y : A} {xs ys : List A} → x ≡ y → xs ≡ ys → x ∷ xs ≡ y ∷ ys
 first-and-rest e f = rw (e, f)
 
 pub known-results : map byDefinition cases ≡ cases

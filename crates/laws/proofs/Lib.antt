@@ -3,6 +3,7 @@ pub mod Every
 pub mod Same
 pub mod Sums
 pub mod Greatest
+pub mod First
 pub mod Tabulate
 pub mod Lists
 pub mod Lines
@@ -10,4 +11,6 @@ pub mod Digits
 pub mod Filling
 pub mod Buffers
 pub mod Pieces
+pub mod Clipped
+pub mod ClippedPieces
 pub mod Copies

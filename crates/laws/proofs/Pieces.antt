@@ -27,7 +27,7 @@ pieces-none made before at h =
     record { made = made; few = omega arith; room = h; wrote = rw (made .none) (wrote-none before at (omega arith)) }
 
 -- the first pieces take no more than all
-grows : {A : Type 0} {whole piece : ℕ → List A} {total : ℕ} → Made whole piece total → (d n : ℕ) → n + d ≡ total → length (whole n) ≤ length (whole total)
+pub grows : {A : Type 0} {whole piece : ℕ → List A} {total : ℕ} → Made whole piece total → (d n : ℕ) → n + d ≡ total → length (whole n) ≤ length (whole total)
 grows {whole = whole} made zero n e = omega (arith, ap (λ (k : ℕ). length (whole k)) (sym (add-zero n) ∙ e))
 grows {whole = whole} {piece = piece} made (suc d) n e =
     omega (arith, grows made d (n + 1) (omega arith), ap length (made .next n (omega arith)), length-append (whole n) (piece n))

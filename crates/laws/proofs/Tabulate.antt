@@ -1,10 +1,10 @@
--- Lists over places: their length, their elements, what maps them, and a list over its own places. Nothing here depends on what the elements are. Assumes nothing.
-use Prim.Native.Nat.{ℕ, zero, suc, _+_, _-_, _≤_, _<_}
+-- Lists over places: their length, their elements, what maps them, the first of them, and a list over its own places. Nothing here depends on what the elements are. Assumes nothing.
+use Prim.Native.Nat.{ℕ, zero, suc, _+_, _≤_, _<_, min}
 use mathlib.Core.Path.{_≡_, refl, sym, ap, _∙_}
 use mathlib.Core.List.{List, _∷_, map}
 use native.Mathlib.Omega.{arith}
-use native.Mathlib.Nat.{add-zero, zero-add}
-use lib.ListN.{length, getD}
+use native.Mathlib.Nat.{add-zero, zero-add, zero-min, min-zero, suc-min-suc}
+use lib.ListN.{length, getD, take}
 use lib.Seq.{ext-getD}
 use Rattle.laws.specs.Words.{tabulate}
 
@@ -34,3 +34,9 @@ tabulate-list xs d =
     let count = length-tabulate 0 (length xs) (λ i. getD xs i d) in
     ext-getD d (tabulate 0 (length xs) (λ i. getD xs i d)) xs count
     (λ i l. getD-tabulate 0 (length xs) (λ k. getD xs k d) d i (omega (arith, count)) ∙ ap (λ (k : ℕ). getD xs k d) (zero-add i))
+
+pub take-tabulate : {A : Type 0} (m i n : ℕ) (f : ℕ → A) → take m (tabulate i n f) ≡ tabulate i (min m n) f
+unfolding tabulate
+take-tabulate zero i n f = rw (zero-min n) refl
+take-tabulate (suc m) i zero f = rw (min-zero (suc m)) refl
+take-tabulate (suc m) i (suc n) f = rw (suc-min-suc m n) (ap (λ l. f i ∷ l) (take-tabulate m (suc i) n f))

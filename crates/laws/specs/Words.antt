@@ -30,6 +30,11 @@ unfoldable pub everyBelow : ℕ → (ℕ → Bool) → Bool
 everyBelow zero f = true
 everyBelow (suc n) f = everyBelow n f && f n
 
+-- The first of the places 0, 1, …, n - 1 at which f holds, and n where there is none.
+unfoldable pub firstBelow : ℕ → (ℕ → Bool) → ℕ
+firstBelow zero f = 0
+firstBelow (suc n) f = let before = firstBelow n f in cond (ltb before n) before (cond (f n) n (suc n))
+
 -- Whether two lists have the same numbers at the first n places, with 0 beyond their last.
 unfoldable pub sameUpTo : ℕ → List ℕ → List ℕ → Bool
 sameUpTo n a b = everyBelow n (λ i. eqb (getD a i 0) (getD b i 0))
@@ -56,6 +61,10 @@ ascii (c then text) = code c ∷ ascii text
 -- The buffer with the text from the place `at` on, and all else as it was.
 unfoldable pub patched : {A : Type 0} → List A → ℕ → List A → List A
 patched buffer at text = take at buffer ++ text ++ drop (at + length text) buffer
+
+-- The same of as much of the text as the buffer has room for.
+unfoldable pub clipped : {A : Type 0} → List A → ℕ → List A → List A
+clipped buffer at text = take (length buffer) (patched buffer at text)
 
 -- The buffer with the text at its start; where the text does not fit, the buffer as it was.
 unfoldable pub written : List ℕ → List ℕ → List ℕ

@@ -2,6 +2,7 @@ pub mod Readiness
 pub mod Picks
 pub mod Scanned
 pub mod RunningTimes
+pub mod MostTimes
 pub mod Figures
 pub mod Ticking
 pub mod Course
@@ -14,3 +15,4 @@ pub mod Legality
 pub mod Reading
 pub mod Claims
 pub mod SpanTimes
+pub mod SpanOrder

@@ -12,6 +12,9 @@ use jobs::refusal::Check;
 use jobs::refusal::Refusal;
 use jobs::set::JobSet;
 
+// Enough numbers for every trace, by the theorem `trace-within-twice`: four for each entry, and at most twice as many entries as there are jobs.
+pub const MAX_NUMBERS: usize = 8 * JobSet::MAX_JOBS;
+
 // A run of the job at a place of the table.
 pub struct Span {
     pub at: usize,

@@ -12,7 +12,7 @@ use lib.Seq.{take-suc, length-take-le}
 use borrow.Author.Tests.{eq-eqb, ne-eqb}
 use Rattle.laws.proofs.Tests.{by-equal}
 use Rattle.decimal.specs.Digits.{digitCount, decimal, signed}
-use Rattle.decimal.proofs.Counts.{count-within}
+use Rattle.texts.proofs.WordDigits.{word-digits}
 use Rattle.report.specs.Texts.{afterCommas}
 use Rattle.report.proofs.Lines.{commas-append}
 
@@ -37,9 +37,6 @@ pub later-length : (k value : ℕ) → (k ≡ 0 → ⊥) → length (columnText 
 later-length k value h = omega (arith, ap length (later-text k value h))
 
 -- a number of 64 bits has at most 20 digits
-pub word-digits : (value : ℕ) → value < 2 ^ 64 → digitCount value ≤ 20
-word-digits value h = count-within 19 value (omega arith)
-
 pub column-within : (k value : ℕ) → value < 2 ^ 64 → length (columnText k value) ≤ 21
 column-within k value h =
     by-equal k 0

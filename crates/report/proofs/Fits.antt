@@ -1,6 +1,6 @@
 -- A buffer of 64 bytes for each job that a set can hold has room for every text. A chain number has at most 2 digits, a job number 3, a bound 11 and a
 -- time of a run 10, so that a row of bounds takes at most 58 bytes and a row of a trace 31. Assumes nothing.
-use Prim.Native.Nat.{ℕ, zero, suc, _+_, _-_, _*_, _^_, _≤_, _<_}
+use Prim.Native.Nat.{ℕ, zero, suc, _+_, _*_, _^_, _≤_, _<_}
 use mathlib.Core.List.{List, [], _∷_, map}
 use mathlib.Core.Path.{_≡_, sym, ap, subst}
 use native.Mathlib.Omega.{arith}
@@ -14,7 +14,7 @@ use Rattle.decimal.specs.Digits.{signed}
 use Rattle.decimal.proofs.Values.{decimal-within, signed-within}
 use Rattle.jobs.specs.declared.job.Job.{Job}
 use Rattle.jobs.specs.declared.refusal.Check.the-variants.{Passed}
-use Rattle.jobs.specs.Jobs.{jobAt}
+use Rattle.jobs.specs.Jobs.{jobAt, mostTimes}
 use Rattle.jobs.specs.Checks.{checkOf}
 use Rattle.jobs.proofs.Accepted.{Accepted, accepted}
 use Rattle.theory.specs.Table.{tableOf}
@@ -24,11 +24,11 @@ use Rattle.machine.specs.declared.trace.Span.{Span}
 use Rattle.machine.specs.Ticks.{lastTime}
 use Rattle.machine.specs.Runs.{row, rows, traced}
 use Rattle.machine.proofs.SpanTimes.{EndedBy, spans-ended}
+use Rattle.machine.proofs.MostTimes.{most-passed}
 use Rattle.machine.proofs.Claims.{claims}
-use Rattle.report.specs.Texts.{boundsHeader, boundsRow, boundsText, traceHeader, mostTimes, traceText, maxBytes, TextsFit}
+use Rattle.report.specs.Texts.{boundsHeader, boundsRow, boundsText, traceHeader, traceText, maxBytes, TextsFit}
 use Rattle.report.proofs.Lines.{lineText, linesUpTo, lines-within, Narrow, line-within}
 use Rattle.report.proofs.EntryTexts.{entriesText}
-use Rattle.report.proofs.MostTimes.{most-passed}
 use Rattle.report.proofs.Numbers.{numbered-at}
 use Rattle.report.proofs.TraceTexts.{spanText, spansText, rows-spans}
 

@@ -1,13 +1,10 @@
 pub mod Lines
 pub mod ColumnTexts
 pub mod ColumnWrites
-pub mod Wholes
-pub mod RefusedText
 pub mod RowTexts
 pub mod RowsTexts
 pub mod EntryTexts
-pub mod TextAnswers
-pub mod MostTimes
+pub mod FigureRows
 pub mod TraceTexts
 pub mod Numbers
 pub mod Fits

@@ -11,7 +11,8 @@ use Rattle.decimal.specs.Digits.{signed}
 use Rattle.report.specs.declared.row.Row.{Row}
 use Rattle.report.specs.Texts.{afterCommas}
 use Rattle.report.proofs.Lines.{lineEnd, lineText, commas-append, line-is}
-use Rattle.report.proofs.ColumnTexts.{columnsText, word-digits}
+use Rattle.texts.proofs.WordDigits.{word-digits}
+use Rattle.report.proofs.ColumnTexts.{columnsText}
 
 -- an integer of 64 bits has at most 19 digits, and takes at most 21 bytes
 pub signed-word : (z : ℤ) → SFits w64 z → length (signed z) ≤ 21

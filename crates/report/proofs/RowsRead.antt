@@ -10,29 +10,30 @@ use lib.IntN.{ℤ, pos, negsuc}
 use lib.ListN.{length, drop}
 use Rattle.decimal.specs.Digits.{signed}
 use Rattle.decimal.specs.Fields.{isDigit, maxDigits, digitRun}
+use Rattle.decimal.proofs.Absence.{lacks, lacks-append, lacks-decimal}
 use Rattle.table.specs.Lines.{linesOf, fieldsIn}
-use Rattle.table.proofs.PlainLines.{noReturn, plain-append, plain-decimal, lines-plain}
+use Rattle.table.proofs.PlainLines.{lines-plain}
 use Rattle.table.proofs.ReadBack.{field-back}
 use Rattle.report.specs.Texts.{afterCommas, linesText}
 use Rattle.report.proofs.Lines.{Narrow}
 
 -- ---- rows hold no CR, and so are the lines of their text
-plain-signed : (z : ℤ) → noReturn (signed z) ≡ true
-unfolding signed noReturn
-plain-signed (pos n) = plain-decimal n
-plain-signed (negsuc n) = plain-decimal (suc n)
+plain-signed : (z : ℤ) → lacks 13 (signed z) ≡ true
+unfolding signed lacks
+plain-signed (pos n) = lacks-decimal 13 n (omega arith)
+plain-signed (negsuc n) = lacks-decimal 13 (suc n) (omega arith)
 
-plain-commas : (row : List ℤ) → noReturn (afterCommas row) ≡ true
-unfolding afterCommas noReturn
+plain-commas : (row : List ℤ) → lacks 13 (afterCommas row) ≡ true
+unfolding afterCommas lacks
 plain-commas [] = refl
-plain-commas (value ∷ values) = plain-append (signed value) (afterCommas values) (plain-signed value) (plain-commas values)
+plain-commas (value ∷ values) = lacks-append 13 (signed value) (afterCommas values) (plain-signed value) (plain-commas values)
 
 -- a row without its first comma
 abbrev pub rowText : List ℤ → List ℕ
 rowText row = drop 1 (afterCommas row)
 
-plain-row : (row : List ℤ) → noReturn (rowText row) ≡ true
-unfolding afterCommas noReturn
+plain-row : (row : List ℤ) → lacks 13 (rowText row) ≡ true
+unfolding afterCommas lacks
 plain-row [] = refl
 plain-row (value ∷ values) = plain-commas (value ∷ values)
 

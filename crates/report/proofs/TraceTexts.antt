@@ -11,6 +11,7 @@ use Rattle.jobs.specs.declared.job.Job.{Job}
 use Rattle.jobs.specs.declared.refusal.Refusal.{Refusal}
 use Rattle.jobs.specs.declared.refusal.Check.the-variants.{Passed}
 use Rattle.jobs.specs.Limits.{maxJobs}
+use Rattle.jobs.specs.Jobs.{mostTimes}
 use Rattle.jobs.specs.Checks.{checkOf}
 use Rattle.jobs.proofs.Accepted.{accepted}
 use Rattle.machine.specs.declared.trace.Span.{Span}
@@ -18,12 +19,12 @@ use Rattle.machine.specs.declared.trace.Traced.{Traced}
 use Rattle.machine.specs.declared.trace.Traced.the-variants.{Entries, Refused as RefusedTrace}
 use Rattle.machine.specs.Runs.{row, rows, traced, traceOf, tracedIn}
 use Rattle.machine.proofs.Tracing.{rows-length, trace-written, traced-length}
+use Rattle.machine.proofs.MostTimes.{most-passed}
 use Rattle.machine.proofs.Claims.{claims}
-use Rattle.report.specs.Texts.{linesText, traceHeader, entryRow, mostTimes, traceText}
+use Rattle.texts.proofs.Wholes.{patched-start}
+use Rattle.report.specs.Texts.{linesText, traceHeader, entryRow, traceText}
 use Rattle.report.proofs.Lines.{lineText, lines-more}
-use Rattle.report.proofs.Wholes.{patched-start}
 use Rattle.report.proofs.EntryTexts.{entryText, entriesText}
-use Rattle.report.proofs.MostTimes.{most-passed}
 
 -- ---- rows
 -- the row of a span

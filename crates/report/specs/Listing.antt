@@ -6,7 +6,8 @@ use Rattle.laws.specs.Words.{ℕ, _≤_, _≡_, List, [], _∷_, _++_, map, len
 use Rattle.jobs.specs.declared.{job.Job.Job, refusal.Check.Check}
 use Rattle.jobs.specs.{Refusals.onPass, Jobs.setOf, Checks.checkOf}
 use Rattle.table.specs.Tables.{header, maxText, readingOf}
-use Rattle.report.specs.{declared.written.Written.Written, Texts.linesText, Texts.maxBytes, Answers.answerTo}
+use Rattle.texts.specs.{declared.written.Written.Written, Answers.answerTo}
+use Rattle.report.specs.Texts.{linesText, maxBytes}
 
 -- The row of a job: its numbers and values in the order of the columns.
 abbrev pub tableRow : Job → List ℤ

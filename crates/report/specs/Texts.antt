@@ -1,8 +1,8 @@
 -- The texts that are printed: lines of integers with single commas. Document 01, "Programs and the C side". Assumes nothing.
 use Rattle.laws.specs.Words.{ℕ, _*_, _≤_, _≡_, List, [], _∷_, _++_, map, length, getD, take, drop, ℤ, pos, tabulate, ascii}
 use Rattle.decimal.specs.Digits.{signed}
-use Rattle.jobs.specs.declared.{job.Job.Job, refusal.Refusal.Refusal, refusal.Check.Check}
-use Rattle.jobs.specs.{Limits.maxJobs, Refusals.numberOf, Jobs.jobAt, Checks.checkOf}
+use Rattle.jobs.specs.declared.{job.Job.Job, refusal.Check.Check}
+use Rattle.jobs.specs.{Limits.maxJobs, Jobs.jobAt, Jobs.mostTimes, Checks.checkOf}
 use Rattle.theory.specs.{Table.tableOf, Bounds.ert, Bounds.cja, Bounds.itr, Bounds.slacks}
 use Rattle.machine.specs.Runs.{rows, traced}
 
@@ -39,19 +39,11 @@ traceHeader = ascii "chain,job,from,to\r\n"
 abbrev pub entryRow : List ℕ → ℕ → List ℤ
 entryRow numbers n = map pos (take 4 (drop (4 * n) numbers))
 
--- The most time of each job, in table order.
-unfoldable pub mostTimes : List Job → List ℕ
-mostTimes js = map (λ (j : Job). j .most) js
-
 -- The trace text of a list of jobs: a row for each entry of the run with all most times.
 unfoldable pub traceText : List Job → List ℕ
 traceText js =
     let spans = traced js (mostTimes js) in
     traceHeader ++ linesText (tabulate 0 (length spans) (entryRow (rows js spans)))
-
--- The line that a refusal prints: `refused,` and the number.
-unfoldable pub refusedText : Refusal → List ℕ
-refusedText refusal = ascii "refused," ++ linesText ((pos (numberOf refusal) ∷ []) ∷ [])
 
 -- The length of the buffers that the programs lend.
 abbrev pub maxBytes : ℕ

@@ -1,16 +1,17 @@
 // The bounds text of a table.
 ghost use Rattle.laws.specs.Words.{_≡_, _++_, _≤_, tabulate, written as Laws·written};
 ghost use Rattle.jobs.specs.Limits.{maxJobs};
-ghost use Rattle.report.specs.{Texts.linesText, Texts.boundsHeader, Texts.boundsRow, Texts.boundsText, Answers.answerTo, Answers.answerFor, Answers.leftFor};
+ghost use Rattle.report.specs.Texts.{linesText, boundsHeader, boundsRow, boundsText};
+ghost use Rattle.texts.specs.Answers.{answerTo, answerFor, leftFor};
 use crate::columns::write_bytes;
 use crate::rows::rows_length;
 use crate::rows::write_rows;
-use crate::written::Written;
 use analysis::answer::Figures;
 use analysis::figures::figures;
 use jobs::refusal::Check;
 use jobs::refusal::Refusal;
 use jobs::set::JobSet;
+use texts::written::Written;
 
 const HEADER: [u8; 29] = *b"chain,job,ert,cja,itr,slack\r\n";
 

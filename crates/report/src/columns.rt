@@ -4,6 +4,7 @@ ghost use Rattle.decimal.specs.Digits.{decimal};
 ghost use Rattle.report.specs.Texts.{afterCommas, linesText};
 use decimal::count::digit_count;
 use decimal::unsigned::write_unsigned;
+use texts::bytes::put_bytes;
 
 // How many bytes column k takes.
 fn column_length(k: usize, value: u64) -> usize
@@ -62,12 +63,7 @@ pub(crate) fn write_bytes(bytes: &[u8], out: &mut [u8], at: usize) -> usize
     requires { ⌜ at + length (now bytes) ≤ length (now out) ⌝ }
     ensures { λ r. ⌜ (r ≡ at + length (now (bytes .entry))) × (now (out .exit) ≡ patched (now (out .entry)) at (now (bytes .entry))) ⌝ }
 {
-    let mut i: usize = 0;
-    while i < bytes.len() {
-        out[at + i] = bytes[i];
-        i += 1;
-    }
-    at + i
+    at + put_bytes(bytes, out, at)
 }
 
 // How many bytes the columns take as a line, no more than 8 of them.

@@ -5,7 +5,6 @@ ghost use Rattle.report.specs.{Texts.linesText, Listing.tableRow, Listin
 use crate::columns::line_length;
 use crate::columns::write_bytes;
 use crate::columns::write_line;
-use crate::written::Written;
 use jobs::check::check;
 use jobs::job::Job;
 use jobs::refusal::Check;
@@ -13,6 +12,7 @@ use jobs::refusal::Refusal;
 use jobs::set::JobSet;
 use table::header::HEADER;
 use table::line::MAX_COLUMNS;
+use texts::written::Written;
 
 // The numbers and values of a job, in the order of the columns.
 fn job_values(job: Job) -> [u64; MAX_COLUMNS]

@@ -1,36 +1,21 @@
 // The trace text of a table.
-ghost use Rattle.laws.specs.Words.{_≡_, _++_, _*_, _≤_, length, tabulate, padded, written as Laws·written};
+ghost use Rattle.laws.specs.Words.{_≡_, _++_, _*_, _≤_, length, tabulate, written as Laws·written};
 ghost use Rattle.jobs.specs.{Limits.maxJobs, Jobs.jobsOf, Checks.checkOf};
-ghost use Rattle.report.specs.{Texts.linesText, Texts.traceHeader, Texts.entryRow, Texts.mostTimes, Texts.traceText, Answers.answerTo, Answers.answerFor, Answers.leftFor};
+ghost use Rattle.report.specs.Texts.{linesText, traceHeader, entryRow, traceText};
+ghost use Rattle.texts.specs.Answers.{answerTo, answerFor, leftFor};
 use crate::columns::write_bytes;
 use crate::entries::entries_length;
 use crate::entries::write_entries;
-use crate::written::Written;
+use jobs::most::most_times;
 use jobs::refusal::Check;
 use jobs::refusal::Refusal;
 use jobs::set::JobSet;
+use machine::trace::MAX_NUMBERS;
 use machine::trace::Traced;
 use machine::trace::trace;
+use texts::written::Written;
 
 const HEADER: [u8; 19] = *b"chain,job,from,to\r\n";
-
-// Four numbers for each entry, and at most twice as many entries as there are jobs.
-const MAX_NUMBERS: usize = 8 * JobSet::MAX_JOBS;
-
-// The most time of each job, and 0 in the places beyond the jobs.
-fn most_times(set: JobSet) -> [u64; JobSet::MAX_JOBS]
-    requires { ⌜ set .count ≤ maxJobs ⌝ }
-    ensures { λ r. ⌜ r ≡ padded maxJobs 0 (mostTimes (jobsOf set)) ⌝ }
-{
-    let mut times = [0u64; JobSet::MAX_JOBS];
-    let count = set.count;
-    let mut n: usize = 0;
-    while n < count {
-        times[n] = set.jobs[n].most;
-        n += 1;
-    }
-    times
-}
 
 // Writes the header and the rows; the length is worked out first, so that a short buffer stays as it was.
 fn write_trace(numbers: &[u64], count: usize, out: &mut [u8]) -> Written

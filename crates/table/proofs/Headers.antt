@@ -13,11 +13,12 @@ use Rattle.laws.specs.Words.{sameUpTo}
 use Rattle.laws.proofs.Tests.{by-test, both-ways, never-true, and-left, and-right, and-both}
 use Rattle.laws.proofs.Same.{same-not, same-whole, same-front, front-same}
 use Rattle.laws.proofs.Lines.{firstLine, afterLine, lineLength, after-within, first-take}
+use Rattle.decimal.proofs.Absence.{lacks}
 use Rattle.table.specs.declared.line.End.{End}
 use Rattle.table.specs.declared.line.End.the-variants.{Here, Elsewhere}
 use Rattle.table.specs.Tables.{header}
 use Rattle.table.proofs.Lines.{endOf, end-within}
-use Rattle.table.proofs.PlainLines.{noReturn, goes-on}
+use Rattle.table.proofs.PlainLines.{goes-on}
 
 -- ---- what the contracts write out
 abbrev pub startsWith : List ℕ → List ℕ → Bool
@@ -56,7 +57,7 @@ record Starts (prefix text : List ℕ) : Type 0 where
   line : isLine prefix (firstLine text) ≡ eqb (length (firstLine (drop (length prefix) text))) 0
   after : afterLine (drop (length prefix) text) ≡ afterLine text
 
-starts : (prefix text : List ℕ) → noReturn prefix ≡ true → startsWith prefix text ≡ true → Starts prefix text
+starts : (prefix text : List ℕ) → lacks 13 prefix ≡ true → startsWith prefix text ≡ true → Starts prefix text
 starts prefix text n e =
     let rest = drop (length prefix) text in
     let fits = leb (length prefix) (length text) in
@@ -86,7 +87,7 @@ not-header text e = rw (never-true (isLine header (firstLine text)) (λ t. both-
 
 module _ (text : List ℕ) (e : startsWith header text ≡ true) where
   begins : Starts header text
-  unfolding noReturn
+  unfolding lacks
   begins = starts header text refl e
 
   pub header-within : length header ≤ length text

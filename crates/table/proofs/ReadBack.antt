@@ -14,6 +14,7 @@ use Rattle.laws.proofs.Same.{same-refl}
 use Rattle.decimal.specs.Digits.{digitCount, decimal}
 use Rattle.decimal.specs.Fields.{maxDigits, digitRun}
 use Rattle.decimal.proofs.RoundTrip.{round-trip}
+use Rattle.decimal.proofs.Absence.{lacks}
 use Rattle.jobs.specs.declared.job.Job.{Job}
 use Rattle.jobs.specs.declared.refusal.Refusal.the-variants.{TextTooLong, NotHeader}
 use Rattle.jobs.specs.declared.refusal.Check.the-variants.{Passed}
@@ -26,7 +27,7 @@ use Rattle.table.specs.Lines.{linesOf, maxColumns, fieldsIn, rowOf}
 use Rattle.table.specs.Tables.{header, maxText, refusedWith, recordsFrom, underHeader, readingOf}
 use Rattle.table.proofs.Headers.{isLine}
 use Rattle.table.proofs.Records.{thenRow}
-use Rattle.table.proofs.PlainLines.{noReturn, lines-plain}
+use Rattle.table.proofs.PlainLines.{lines-plain}
 
 -- a comma and a number, with no digit behind it
 pub field-back : (k : ℕ) (before : List ℕ) (value : ℕ) (rest : List ℕ) → digitCount value ≤ maxDigits → digitRun rest ≡ []
@@ -65,7 +66,7 @@ same-line : (line : List ℕ) → isLine line line ≡ true
 same-line line = and-both _ _ (eq-eqb (length line) (length line) refl) (same-refl (length line) line)
 
 pub header-back : (rest : List ℕ) → length (header ++ ascii "\r\n" ++ rest) ≤ maxText → readingOf (header ++ ascii "\r\n" ++ rest) ≡ recordsFrom [] (linesOf rest)
-unfolding readingOf noReturn
+unfolding readingOf lacks
 header-back rest short =
     let text = header ++ ascii "\r\n" ++ rest in
     ap (λ (b : Bool). cond b (underHeader (linesOf text)) (refusedWith TextTooLong)) (le-leb (length text) maxText short)

@@ -1,10 +1,10 @@
 // Reads a job table from standard input and prints the run of its jobs with all most times, or the line of its refusal.
 use libc::STDIN_FILENO;
 use libc::STDOUT_FILENO;
-use report::refused::ready_to_print;
+use report::room::MAX_BYTES;
 use report::trace::trace_text;
-use report::written::MAX_BYTES;
 use table::reading::MAX_TEXT;
+use texts::refused::ready_to_print;
 
 // A buffer of one byte more than the limit tells a text that is too long.
 fn main() {

@@ -2,10 +2,10 @@
 use crate::print::print;
 use crate::print::print_number;
 use crate::print::print_refused;
-use crate::traces::MAX_NUMBERS;
-use crate::traces::most_times;
+use jobs::most::most_times;
 use jobs::set::JobSet;
 use kept_tables::set_of;
+use machine::trace::MAX_NUMBERS;
 use machine::trace::Traced;
 use machine::trace::trace;
 

@@ -1,33 +1,15 @@
 // Runs with all most times: the trace, and the end.
-ghost use mathlib.Core.Path.{_≡_};
-ghost use lib.ListN.{length};
-ghost use Rattle.jobs.specs.Limits.{maxJobs};
 use crate::print::print;
 use crate::print::print_column;
 use crate::print::print_number;
 use crate::print::print_refused;
+use jobs::most::most_times;
 use jobs::set::JobSet;
 use kept_tables::set_of;
 use machine::run::run;
+use machine::trace::MAX_NUMBERS;
 use machine::trace::Traced;
 use machine::trace::trace;
-
-// The numbers of the longest trace.
-pub(crate) const MAX_NUMBERS: usize = 8 * JobSet::MAX_JOBS;
-
-// The most time of each job; lending the array needs its length.
-pub(crate) fn most_times(set: JobSet) -> [u64; JobSet::MAX_JOBS]
-    ensures { λ r. ⌜ maxJobs ≡ length r ⌝ }
-{
-    let mut times = [0u64; JobSet::MAX_JOBS];
-    let mut i: usize = 0;
-    while i < JobSet::MAX_JOBS {
-        let job = set.jobs[i];
-        times[i] = job.most;
-        i += 1;
-    }
-    times
-}
 
 // One entry: chain, job, from, to.
 fn print_entry(numbers: &[u64], entry: usize) {

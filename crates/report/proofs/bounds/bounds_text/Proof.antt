@@ -8,8 +8,8 @@ use Rattle.jobs.specs.Checks.{checkOf}
 use Rattle.jobs.proofs.Sets.{length-jobs}
 use Rattle.jobs.proofs.Accepted.{accepted}
 use Rattle.table.proofs.Accepting.{read-check, read-jobs, read-passed}
-use Rattle.report.specs.Answers.{answerFor, leftFor}
-use Rattle.report.proofs.TextAnswers.{figures-text}
+use Rattle.texts.specs.Answers.{answerFor, leftFor}
+use Rattle.report.proofs.FigureRows.{figures-text}
 use Rattle.report.proofs.bounds.bounds_text.Statement.{statement}
 use Rattle.report.proofs.bounds.bounds_text.Tie as tie
 

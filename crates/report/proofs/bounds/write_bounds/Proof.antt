@@ -8,8 +8,9 @@ use borrow.Author.Needs.{needs}
 use Rattle.laws.proofs.Buffers.{Wrote, wrote-none, wrote-more, wrote-room, wrote-length}
 use Rattle.laws.proofs.Buffers.{written-short}
 use Rattle.report.specs.Texts.{boundsHeader}
-use Rattle.report.proofs.Wholes.{wrote-whole}
-use Rattle.report.proofs.TextAnswers.{answer-short, answer-fits, figureRows}
+use Rattle.texts.proofs.Wholes.{wrote-whole}
+use Rattle.texts.proofs.TextAnswers.{answer-short, answer-fits}
+use Rattle.report.proofs.FigureRows.{figureRows}
 use Rattle.report.proofs.bounds.write_bounds.Statement.{statement}
 use Rattle.report.proofs.bounds.write_bounds.Tie as tie
 

@@ -2,7 +2,8 @@
 use mathlib.Core.Path.{sym, _∙_}
 use native.Mathlib.Omega.{arith}
 use borrow.Author.Needs.{needs}
-use Rattle.report.proofs.ColumnTexts.{first-length, later-length, word-digits}
+use Rattle.texts.proofs.WordDigits.{word-digits}
+use Rattle.report.proofs.ColumnTexts.{first-length, later-length}
 use Rattle.report.proofs.columns.column_length.Statement.{statement}
 use Rattle.report.proofs.columns.column_length.Tie as tie
 

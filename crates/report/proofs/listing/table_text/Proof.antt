@@ -16,8 +16,8 @@ use Rattle.jobs.proofs.Accepted.{accepted}
 use Rattle.table.specs.Tables.{header}
 use Rattle.report.specs.Texts.{linesText}
 use Rattle.report.specs.Listing.{tableRow, tableText, tableAnswer, tableLeft}
-use Rattle.report.proofs.Wholes.{wrote-whole}
-use Rattle.report.proofs.TextAnswers.{answer-short, answer-fits}
+use Rattle.texts.proofs.Wholes.{wrote-whole}
+use Rattle.texts.proofs.TextAnswers.{answer-short, answer-fits}
 use Rattle.report.proofs.listing.table_text.Statement.{statement}
 use Rattle.report.proofs.listing.table_text.Tie as tie
 

@@ -9,21 +9,24 @@ use Rattle.jobs.specs.Limits.{maxJobs}
 use Rattle.jobs.specs.Jobs.{jobsOf}
 use Rattle.jobs.proofs.Sets.{length-jobs}
 use Rattle.jobs.proofs.Accepted.{accepted}
-use Rattle.report.proofs.MostTimes.{most-lent, most-room}
+use Rattle.jobs.proofs.MostTimes.{most-length, most-lent}
 use Rattle.report.proofs.TraceTexts.{Ran, most-ran, ran-not-refused, ran-fits, ran-text}
 use Rattle.report.proofs.trace.trace_set.Statement.{statement}
 use Rattle.report.proofs.trace.trace_set.Tie as tie
 
+few : (s : tie.Start) → s .args .set .count ≤ maxJobs
+few s = omega (arith, length-jobs (s .args .set), accepted (jobsOf (s .args .set)) (s .pre) .few)
+
 room : (c : tie.After-most-times) → c .before .before .args .set .count ≤ length (c .most-times .result)
-room c = most-room (c .before .before .args .set) (c .most-times .result) (c .before .before .pre) (c .most-times .ensures)
+room c = omega (arith, few (c .before .before), most-length (c .before .before .args .set) (c .most-times .result) (c .most-times .ensures))
 
 ran : (c : tie.After-trace) → Ran (jobsOf (c .before .before .before .before .before .args .set)) (c .trace .result) (c .trace .last .1 .1 .0)
 ran c =
     let s = c .before .before .before .before .before in
-    most-ran (jobsOf (s .args .set)) (s .pre) _ (most-lent (s .args .set) (c .before .before .before .most-times .result) (c .before .before .before .most-times .ensures)) (replicate (8 * maxJobs) 0) (omega (arith, length-replicate {A = ℕ} (8 * maxJobs) 0)) (c .trace .ensures)
+    most-ran (jobsOf (s .args .set)) (s .pre) _ (most-lent (s .args .set) (c .before .before .before .most-times .result) (few s) (c .before .before .before .most-times .ensures)) (replicate (8 * maxJobs) 0) (omega (arith, length-replicate {A = ℕ} (8 * maxJobs) 0)) (c .trace .ensures)
 
 most-times-requires : tie.Need-most-times-requires
-most-times-requires c κs = omega (arith, length-jobs (c .before .args .set), accepted (jobsOf (c .before .args .set)) (c .before .pre) .few)
+most-times-requires c κs = search needs
 
 array-share-prefix-most : tie.Need-array-share-prefix-most
 array-share-prefix-most c = room c

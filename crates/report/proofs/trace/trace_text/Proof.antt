@@ -1,7 +1,7 @@
 -- `trace_text` answers `answerFor traceText` and leaves `leftFor traceText`. Assumes nothing.
 use borrow.Author.Needs.{needs}
 use Rattle.table.proofs.Accepting.{read-check, read-jobs, read-passed}
-use Rattle.report.specs.Answers.{answerFor, leftFor}
+use Rattle.texts.specs.Answers.{answerFor, leftFor}
 use Rattle.report.proofs.trace.trace_text.Statement.{statement}
 use Rattle.report.proofs.trace.trace_text.Tie as tie
 

@@ -9,8 +9,8 @@ use Rattle.laws.proofs.Buffers.{Wrote, wrote-none, wrote-more, wrote-room, wrot
 use Rattle.laws.proofs.Buffers.{written-short}
 use Rattle.report.specs.Texts.{traceHeader}
 use Rattle.report.proofs.EntryTexts.{entriesText}
-use Rattle.report.proofs.Wholes.{wrote-whole}
-use Rattle.report.proofs.TextAnswers.{answer-short, answer-fits}
+use Rattle.texts.proofs.Wholes.{wrote-whole}
+use Rattle.texts.proofs.TextAnswers.{answer-short, answer-fits}
 use Rattle.report.proofs.trace.write_trace.Statement.{statement}
 use Rattle.report.proofs.trace.write_trace.Tie as tie
 

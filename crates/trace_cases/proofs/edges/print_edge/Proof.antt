@@ -1,5 +1,7 @@
 -- `print_edge` lends as many times as the set has jobs. Assumes nothing.
+use mathlib.Core.Path.{sym}
 use borrow.Author.Needs.{needs}
+use Rattle.jobs.proofs.MostTimes.{most-length}
 use Rattle.kept_tables.proofs.Lending.{length-lent}
 use Rattle.trace_cases.proofs.edges.print_edge.Statement.{statement}
 use Rattle.trace_cases.proofs.edges.print_edge.Tie as tie
@@ -14,7 +16,7 @@ array-share-prefix-times : tie.Need-array-share-prefix-times
 array-share-prefix-times c = search needs
 
 slice-aggregate-print-sides : tie.Need-slice-aggregate-print-sides
-slice-aggregate-print-sides c = length-lent (c .before .before .most-times .result) (c .before .before .most-times .ensures) (c .before .if1 .taken)
+slice-aggregate-print-sides c = length-lent (c .before .before .most-times .result) (sym (most-length (c .before .before .before .set-of .result) _ (c .before .before .most-times .ensures))) (c .before .if1 .taken)
 
 print-sides-requires : tie.Need-print-sides-requires
 print-sides-requires c κs = search needs

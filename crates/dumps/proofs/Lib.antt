@@ -1,0 +1,17 @@
+pub mod Identifiers
+pub mod Cuts
+pub mod Numbers
+pub mod Wires
+pub mod Definitions
+pub mod Readings
+pub mod Values
+pub mod Changes
+pub mod WholeLines
+pub mod GivesBack
+pub mod Fits
+pub mod Held
+pub mod Claims
+pub mod Examples
+pub mod Entries
+pub mod LineTexts
+pub mod Drawing

@@ -1,0 +1,4 @@
+pub mod Identifiers
+pub mod Dumps
+pub mod Readers
+pub mod Claims

@@ -1,0 +1,5 @@
+pub mod Copying
+pub mod WordDigits
+pub mod Wholes
+pub mod TextAnswers
+pub mod RefusedText

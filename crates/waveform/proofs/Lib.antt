@@ -1,0 +1,4 @@
+pub mod Spans
+pub mod Dumping
+pub mod Trying
+pub mod Answered
