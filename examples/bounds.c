@@ -6,7 +6,7 @@
 int main(int argc, char **argv)
 {
     uint8_t text[CUDLOMER_MAX_TEXT + 1]; /* one byte more than a table may have tells one that is too long */
-    uint8_t out[CUDLOMER_MAX_TEXT];      /* enough for the texts of every table */
+    uint8_t out[CUDLOMER_MAX_TEXT];      /* enough for the bounds text and the trace text of every table */
     if (argc < 2) {
         fprintf(stderr, "usage: %s TABLE [trace]\n", argv[0]);
         return 2;

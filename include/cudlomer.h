@@ -28,10 +28,12 @@ extern "C" {
 #define CUDLOMER_ASSERT _Static_assert
 #endif
 
-/* The greatest values. A buffer of CUDLOMER_MAX_TEXT bytes is enough for every text that is written, CUDLOMER_MAX_ROWS rows for every trace. */
+/* The greatest values. A buffer of CUDLOMER_MAX_TEXT bytes is enough for every bounds text, trace text and text of a table, one of
+ * CUDLOMER_MAX_WAVEFORM bytes for every waveform, and CUDLOMER_MAX_ROWS rows for every trace. */
 #define CUDLOMER_MAX_JOBS 64
 #define CUDLOMER_MAX_CHAINS 16
 #define CUDLOMER_MAX_TEXT 4096
+#define CUDLOMER_MAX_WAVEFORM (128 * CUDLOMER_MAX_JOBS)
 #define CUDLOMER_MAX_ROWS (2 * CUDLOMER_MAX_JOBS)
 #define CUDLOMER_MAX_RELEASE UINT64_C(1000000000)
 #define CUDLOMER_MAX_PRIORITY UINT64_C(255)
@@ -128,8 +130,8 @@ int64_t cudlomer_rounds(const uint8_t *text, size_t text_length);
 /* ---- On sets, as plain numbers ----
  *
  * Each does what the function on structs of the same name does, which is told there. A job is seven numbers in the order of the columns, a row
- * four, a state 65: the time and 64 numbers of work. All lengths are counts of numbers. Where jobs_length is no multiple of seven, the last job's
- * missing numbers are 0. */
+ * four, a state 65: the time and 64 numbers of work. A length counts numbers, or the bytes of a text. Where jobs_length is no multiple of seven,
+ * the last job's missing numbers are 0. */
 int64_t cudlomer_set_read(const uint8_t *text, size_t text_length, uint64_t *jobs, size_t jobs_length);
 int64_t cudlomer_set_write(const uint64_t *jobs, size_t jobs_length, uint8_t *out, size_t out_length);
 int64_t cudlomer_set_bounds(const uint64_t *jobs, size_t jobs_length, uint64_t algorithm, uint64_t *out, size_t out_length);
@@ -141,6 +143,8 @@ int64_t cudlomer_set_tick(const uint64_t *jobs, size_t jobs_length, const uint64
 int64_t cudlomer_set_run(const uint64_t *jobs, size_t jobs_length, const uint64_t *times, size_t times_length, uint64_t *out, size_t out_length);
 int64_t cudlomer_set_trace(const uint64_t *jobs, size_t jobs_length, const uint64_t *times, size_t times_length, uint64_t *out,
                            size_t out_length);
+int64_t cudlomer_set_waveform(const uint64_t *jobs, size_t jobs_length, const uint64_t *times, size_t times_length, uint8_t *out,
+                              size_t out_length);
 
 /* ---- On sets, as structs ----
  *
@@ -234,6 +238,15 @@ static inline int64_t cudlomer_jobs_trace(const struct cudlomer_job *jobs, size_
 {
     return cudlomer_set_trace((const uint64_t *)jobs, CUDLOMER_NUMBERS(cudlomer_job, count), times, times_count, (uint64_t *)rows,
                               CUDLOMER_NUMBERS(cudlomer_row, room));
+}
+
+/* Runs the set from time 0, with a running time for each job, and writes the run into the buffer as a value change dump of IEEE 1364, each line
+ * ended by LF: a wire for each job, such as c1j1 for job 1 of chain 1, is 1 while the job runs. Answers how many bytes were written. Refuses
+ * with 4 to 7, with 8, then with 9 where the dump does not fit. It takes as long as cudlomer_trace. */
+static inline int64_t cudlomer_jobs_waveform(const struct cudlomer_job *jobs, size_t count, const uint64_t *times, size_t times_count,
+                                             uint8_t *out, size_t out_length)
+{
+    return cudlomer_set_waveform((const uint64_t *)jobs, CUDLOMER_NUMBERS(cudlomer_job, count), times, times_count, out, out_length);
 }
 
 #ifdef __cplusplus

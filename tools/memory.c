@@ -14,7 +14,7 @@ static void check_nothing(void)
     count(cudlomer_set_bounds(NULL, 0, 3, NULL, 0) == -7 && cudlomer_set_verdict(NULL, 0, 3) == -7, "bounds and verdict of no set");
     count(cudlomer_set_rounds(NULL, 0) == -7 && cudlomer_set_admit(NULL, 0, 0, NULL, 0, 3) == -7, "rounds of no set, and no chain");
     count(cudlomer_set_tick(NULL, 0, NULL, 0, NULL, 0) == -7 && cudlomer_set_run(NULL, 0, NULL, 0, NULL, 0) == -7, "a run of no set");
-    count(cudlomer_set_trace(NULL, 0, NULL, 0, NULL, 0) == -7, "a trace of no set");
+    count(cudlomer_set_trace(NULL, 0, NULL, 0, NULL, 0) == -7 && cudlomer_set_waveform(NULL, 0, NULL, 0, NULL, 0) == -7, "a trace of no set");
 }
 
 int main(int argc, char **argv)

@@ -40,6 +40,11 @@ static int64_t set_trace(struct ranges timed, void *out, size_t size)
     return cudlomer_set_trace(timed.first, timed.first_size / WORD, timed.second, timed.second_size / WORD, out, size / WORD);
 }
 
+static int64_t set_waveform(struct ranges timed, void *out, size_t size)
+{
+    return cudlomer_set_waveform(timed.first, timed.first_size / WORD, timed.second, timed.second_size / WORD, out, size);
+}
+
 /* The text, the bounds, and the verdict and the rounds, which write nothing. */
 static void check_figures(const uint64_t *numbers, size_t length)
 {
@@ -74,7 +79,7 @@ static void check_admission(const uint64_t *numbers, size_t length, const uint64
     }
 }
 
-/* The run as a whole and its trace, where there is little work, or where all is refused. */
+/* The run as a whole, its trace and its waveform, where there is little work, or where all is refused. */
 static void check_run(struct ranges timed)
 {
     uint64_t work = 0;
@@ -85,6 +90,8 @@ static void check_run(struct ranges timed)
     size_t jobs = (timed.first_size + sizeof(struct cudlomer_job) - 1) / sizeof(struct cudlomer_job);
     check_sizes("set_run", set_run, timed, WORD, jobs * WORD, call_with_room(set_run, timed));
     check_sizes("set_trace", set_trace, timed, WORD, jobs * 2 * sizeof(struct cudlomer_row), call_with_room(set_trace, timed));
+    int64_t bytes = call_with_room(set_waveform, timed);
+    check_sizes("set_waveform", set_waveform, timed, 1, bytes < 0 ? 40 : (size_t)bytes, bytes);
 }
 
 /* Ticks from a state on; beyond the jobs `before` holds what it did. */

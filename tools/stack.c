@@ -7,7 +7,7 @@
 
 enum { STACK = 128 * 1024, LIMIT = 32 * 1024, ADMISSION_LIMIT = 56 * 1024, FILL = 0xa5 };
 
-static uint8_t text[CUDLOMER_MAX_TEXT + 1], out[CUDLOMER_MAX_TEXT], stack[STACK];
+static uint8_t text[CUDLOMER_MAX_TEXT + 1], out[CUDLOMER_MAX_WAVEFORM], stack[STACK];
 static struct cudlomer_job jobs[CUDLOMER_MAX_JOBS], held[CUDLOMER_MAX_JOBS];
 static struct cudlomer_row rows[CUDLOMER_MAX_ROWS];
 static struct cudlomer_state state;
@@ -32,6 +32,7 @@ static void set_admit(void)
 static void set_tick(void) { answer = cudlomer_jobs_tick(jobs, count, times, count, &state); }
 static void set_run(void) { answer = cudlomer_jobs_run(jobs, count, times, count, figures, CUDLOMER_MAX_JOBS); }
 static void set_trace(void) { answer = cudlomer_jobs_trace(jobs, count, times, count, rows, CUDLOMER_MAX_ROWS); }
+static void set_waveform(void) { answer = cudlomer_jobs_waveform(jobs, count, times, count, out, sizeof out); }
 
 static const struct function {
     const char *name;
@@ -40,7 +41,7 @@ static const struct function {
     { "bounds", bounds },           { "trace", trace },           { "verdict", verdict },         { "rounds", rounds },
     { "set_read", set_read },       { "set_write", set_write },   { "set_bounds", set_bounds },   { "set_verdict", set_verdict },
     { "set_rounds", set_rounds },   { "set_admit", set_admit },   { "set_tick", set_tick },       { "set_run", set_run },
-    { "set_trace", set_trace },
+    { "set_trace", set_trace },     { "set_waveform", set_waveform },
 };
 
 enum { FUNCTIONS = sizeof functions / sizeof functions[0] };

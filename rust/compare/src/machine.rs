@@ -1,9 +1,10 @@
-//! Ticks, runs and traces, of running times and states that are right or damaged.
+//! Ticks, runs, traces and waveforms, of running times and states that are right or damaged.
 
 use crate::draw::Draw;
 use crate::is_short;
 use crate::side::{jobs_of, numbers_of, STATE, WANTED};
 use crate::tally::Tally;
+use crate::waveform;
 use reference::{set, Job};
 
 /// So many ticks of a run are gone through one by one, which is more than a run of short jobs with releases near each other has.
@@ -38,6 +39,7 @@ fn compare_run(tally: &mut Tally, numbers: &[u64], times: &[u64]) {
     let given = (numbers, times);
     tally.around("set_run", &given, (jobs.len(), u64::MAX), |side, out| (side.set_run)(numbers, times, out));
     tally.around("set_trace", &given, (8 * jobs.len(), u64::MAX), |side, out| (side.set_trace)(numbers, times, out));
+    waveform::compare(tally, numbers, times);
 }
 
 fn compare_tick(tally: &mut Tally, numbers: &[u64], times: &[u64], state: &[u64]) {

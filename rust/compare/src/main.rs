@@ -8,6 +8,7 @@ mod sets;
 mod side;
 mod tally;
 mod texts;
+mod waveform;
 mod wrapper;
 
 use draw::{Draw, Kind};
@@ -22,6 +23,7 @@ fn is_short(jobs: &[Job]) -> bool {
 fn main() {
     let mut tally = Tally::default();
     let mut draw = Draw::from_seed(2026);
+    waveform::compare_longest(&mut tally);
     for kind in Kind::ALL {
         for _ in 0..kind.tables() {
             let jobs = draw.jobs(kind);

@@ -4,7 +4,7 @@ use crate::draw::{Draw, Kind};
 use crate::is_short;
 use crate::tally::Tally;
 use cudlomer::{Algorithm, Job, Refused, Set, State, Ticked, Times, Verdict};
-use reference::{bounds, machine, set, text};
+use reference::{bounds, machine, set, text, waveform};
 
 pub fn compare(tally: &mut Tally, draw: &mut Draw, kind: Kind, jobs: &[reference::Job]) {
     let own: Vec<Job> = jobs.iter().map(job).collect();
@@ -76,7 +76,7 @@ fn compare_admission(tally: &mut Tally, held: &Set, jobs: &[reference::Job], cha
     tally.same("Set::admit", &(jobs, chain), answer, wanted.map(|set| set.is_some()));
 }
 
-/// The run as a whole, its trace, and the ticks that lead to the same end.
+/// The run as a whole, its trace, its waveform, and the ticks that lead to the same end.
 fn compare_run(tally: &mut Tally, set: &Set, jobs: &[reference::Job], most: &[u64]) {
     let times = set.times(|j| j.most);
     let run = set.run(&times).unwrap();
@@ -84,6 +84,9 @@ fn compare_run(tally: &mut Tally, set: &Set, jobs: &[reference::Job], most: &[u6
     let rows: Vec<[u64; 4]> = set.trace(&times).unwrap().rows().iter().map(|r| [r.chain, r.job, r.from, r.to]).collect();
     let spans: Vec<[u64; 4]> = machine::trace(jobs, most).iter().map(|s| [s.chain, s.job, s.from, s.to]).collect();
     tally.same("Set::trace", &jobs, rows, spans);
+    let mut out = [0; Set::MAX_WAVEFORM];
+    let written = set.waveform(&times, &mut out).map(|bytes| out[..bytes].to_vec());
+    tally.same("Set::waveform", &jobs, written, Ok(waveform::waveform_text(jobs, most).into_bytes()));
     if run.end > 5_000 {
         return;
     }

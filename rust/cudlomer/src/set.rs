@@ -39,8 +39,11 @@ impl Set {
     pub const MAX_JOBS: usize = 64;
     pub const MAX_CHAINS: usize = 16;
 
-    /// The greatest length of a table's text in bytes.
+    /// The greatest length of a table's text in bytes, which is enough for its bounds text and its trace text.
     pub const MAX_TEXT: usize = 4_096;
+
+    /// So many bytes are enough for every waveform.
+    pub const MAX_WAVEFORM: usize = 128 * Set::MAX_JOBS;
 
     /// The set of no job, which a first chain may join.
     pub const EMPTY: Set = Set { jobs: [Job::NONE; Set::MAX_JOBS], count: 0 };
@@ -138,6 +141,23 @@ impl Set {
         let rows = unsafe { ffi::cudlomer_set_trace(self.numbers(), self.length(), times.ticks.as_ptr(), times.count, out, Trace::NUMBERS) };
         trace.count = counted(rows)?;
         Ok(trace)
+    }
+
+    /// Writes the run from time 0 into a buffer as a value change dump of IEEE 1364, in which a wire for each job is 1 while it runs, and answers how
+    /// many bytes it takes; refuses with 8 where the running times do not fit the set, and with 9 where the dump does not fit the buffer.
+    ///
+    /// ```
+    /// # use cudlomer::{Job, Set};
+    /// let set = Set::of(&[Job { chain: 1, job: 1, release: 5, priority: 1, least: 3, most: 7, deadline: 12 }])?;
+    /// let mut out = [0; Set::MAX_WAVEFORM];
+    /// let written = set.waveform(&set.times(|job| job.least), &mut out)?;
+    /// assert!(out[..written].ends_with(b"#0\n$dumpvars\n0!\n$end\n#5\n1!\n#8\n0!\n"));
+    /// # Ok::<(), cudlomer::Refused>(())
+    /// ```
+    pub fn waveform(&self, times: &Times, out: &mut [u8]) -> Result<usize, Refused> {
+        let (lent, room) = (out.as_mut_ptr(), out.len());
+        // The function reads within the set's jobs and the times, and writes within the slice.
+        counted(unsafe { ffi::cudlomer_set_waveform(self.numbers(), self.length(), times.ticks.as_ptr(), times.count, lent, room) })
     }
 
     fn numbers(&self) -> *const u64 {

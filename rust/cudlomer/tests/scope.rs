@@ -43,6 +43,18 @@ fn deadlines_and_a_shorter_run_of_p4() {
     assert_eq!(set.run(&set.times(|job| job.least)).unwrap().end, 8);
 }
 
+/// P4 with 3, byte for byte.
+#[test]
+fn waveform_of_p4() {
+    let set = Set::of(&[p4(12)]).unwrap();
+    let mut out = [0; Set::MAX_WAVEFORM];
+    let written = set.waveform(&set.times(|_| 3), &mut out).unwrap();
+    let header = "$timescale 100 us $end\n$scope module core $end\n$var wire 1 ! c1j1 $end\n$upscope $end\n$enddefinitions $end\n";
+    assert_eq!(&out[..written], (header.to_owned() + "#0\n$dumpvars\n0!\n$end\n#5\n1!\n#8\n0!\n").as_bytes());
+    assert_eq!(set.waveform(&set.times(|_| 3), &mut out[..written - 1]), Err(Refused(9)));
+    assert_eq!(set.waveform(&set.times(|_| 2), &mut out), Err(Refused(8)));
+}
+
 #[test]
 fn a_chain_is_admitted_or_not() {
     let mut set = Set::EMPTY;

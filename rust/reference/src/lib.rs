@@ -1,10 +1,13 @@
-//! The table, the bounds and the machine in plain Rust, from the paper and the scope alone. It shares nothing with the proved part.
+//! The table, the bounds, the machine and its waveforms in plain Rust, from the paper, the scope and its changes alone. It shares nothing with the
+//! proved part.
 
 pub mod bounds;
+pub mod dump;
 pub mod machine;
 pub mod set;
 pub mod table;
 pub mod text;
+pub mod waveform;
 
 /// A record of the table.
 #[derive(Clone, Copy, Debug, PartialEq, Eq)]

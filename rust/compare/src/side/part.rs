@@ -11,9 +11,9 @@ fn answer(value: i64) -> Answer {
     }
 }
 
-type OnTimes = unsafe extern "C" fn(*const u64, usize, *const u64, usize, *mut u64, usize) -> i64;
+type OnTimes<T> = unsafe extern "C" fn(*const u64, usize, *const u64, usize, *mut T, usize) -> i64;
 
-fn on_times(function: OnTimes, jobs: &[u64], times: &[u64], out: &mut [u64]) -> Answer {
+fn on_times<T>(function: OnTimes<T>, jobs: &[u64], times: &[u64], out: &mut [T]) -> Answer {
     // It reads within the first two slices and writes within the third.
     answer(unsafe { function(jobs.as_ptr(), jobs.len(), times.as_ptr(), times.len(), out.as_mut_ptr(), out.len()) })
 }
@@ -51,4 +51,5 @@ pub const PART: Side = Side {
     set_tick: |jobs, times, state| on_times(ffi::cudlomer_set_tick, jobs, times, state),
     set_run: |jobs, times, out| on_times(ffi::cudlomer_set_run, jobs, times, out),
     set_trace: |jobs, times, out| on_times(ffi::cudlomer_set_trace, jobs, times, out),
+    set_waveform: |jobs, times, out| on_times(ffi::cudlomer_set_waveform, jobs, times, out),
 };

@@ -2,7 +2,7 @@
 
 use super::{Answer, Side, STATE};
 use reference::machine::{self, State, Ticked};
-use reference::{bounds, set, table, text, Job};
+use reference::{bounds, set, table, text, waveform, Job};
 
 /// The jobs that numbers are; those missing of the last are 0.
 pub fn jobs_of(numbers: &[u64]) -> Vec<Job> {
@@ -94,4 +94,5 @@ pub const WANTED: Side = Side {
     set_tick,
     set_run,
     set_trace,
+    set_waveform: |jobs, times, out| put(waveform::waveform_text(&timed(jobs, times)?, times).as_bytes(), out),
 };
