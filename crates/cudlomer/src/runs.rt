@@ -81,7 +81,8 @@ pub extern "C" fn cudlomer_set_trace(jobs: &[u64], times: &[u64], out: &mut [u64
 // Writes the waveform of the run into out, and answers how many bytes it takes.
 #[no_mangle]
 pub extern "C" fn cudlomer_set_waveform(jobs: &[u64], times: &[u64], out: &mut [u8]) -> i64
-    ensures { λ r. let js = jobsHere (now (jobs .entry)) in ⌜ (r ≡ writtenCode (waveformAnswer js (now (times .entry)) (now (out .entry)))) × (now (out .exit) ≡ waveformLeft js (now (times .entry)) (now (out .entry))) ⌝ }
+    ensures { λ r. ⌜ r ≡ writtenCode (waveformAnswer (jobsHere (now (jobs .entry))) (now (times .entry)) (now (out .entry))) ⌝ }
+    ensures { λ _. ⌜ now (out .exit) ≡ waveformLeft (jobsHere (now (jobs .entry))) (now (times .entry)) (now (out .entry)) ⌝ }
 {
     written_code(write_waveform(held_set(jobs), times, out))
 }

@@ -21,7 +21,8 @@ pub const MAX_WAVEFORM: usize = 128 * JobSet::MAX_JOBS;
 // Writes the dump of the first entries; its length is what it takes in a buffer of no bytes, so that a short buffer stays as it was.
 fn write_dump(set: JobSet, numbers: &[u64], entries: usize, out: &mut [u8]) -> Written
     requires { ⌜ Drawn (jobsOf set) (now numbers) entries ⌝ }
-    ensures { λ r. let text = dumpOf (jobsOf set) (spansOf (jobsOf set) (now (numbers .entry)) entries) in ⌜ (r ≡ answerTo text (now (out .entry))) × (now (out .exit) ≡ Laws·written text (now (out .entry))) ⌝ }
+    ensures { λ r. let text = dumpOf (jobsOf set) (spansOf (jobsOf set) (now (numbers .entry)) entries) in ⌜ r ≡ answerTo text (now (out .entry)) ⌝ }
+    ensures { λ _. let text = dumpOf (jobsOf set) (spansOf (jobsOf set) (now (numbers .entry)) entries) in ⌜ now (out .exit) ≡ Laws·written text (now (out .entry)) ⌝ }
 {
     let length = put_dump(set, numbers, entries, &mut out[..0]);
     if out.len() < length {
@@ -33,7 +34,8 @@ fn write_dump(set: JobSet, numbers: &[u64], entries: usize, out: &mut [u8]) -> W
 
 // The waveform of a set's run with these running times: refusals 4 to 7 first, then 8, then 9.
 pub fn write_waveform(set: JobSet, times: &[u64], out: &mut [u8]) -> Written
-    ensures { λ r. ⌜ (r ≡ waveformAnswer (jobsOf set) (now (times .entry)) (now (out .entry))) × (now (out .exit) ≡ waveformLeft (jobsOf set) (now (times .entry)) (now (out .entry))) ⌝ }
+    ensures { λ r. ⌜ r ≡ waveformAnswer (jobsOf set) (now (times .entry)) (now (out .entry)) ⌝ }
+    ensures { λ _. ⌜ now (out .exit) ≡ waveformLeft (jobsOf set) (now (times .entry)) (now (out .entry)) ⌝ }
 {
     let mut numbers = [0u64; MAX_NUMBERS];
     match trace(set, times, &mut numbers) {
