@@ -75,10 +75,11 @@ struct cudlomer_job {
     uint64_t chain, job, release, priority, least, most, deadline;
 };
 
-/* The machine's state, all 0 at the start: the time, and the ticks of work done of each job. What stands beyond the jobs is neither read nor
+/* The machine's state, all 0 at the start: the time, the ticks of work done of each job, and when each complete job was completed. The completion
+ * of a job that is not complete is not read, and stays until the tick that completes the job; what stands beyond the jobs is neither read nor
  * changed. */
 struct cudlomer_state {
-    uint64_t time, work[CUDLOMER_MAX_JOBS];
+    uint64_t time, work[CUDLOMER_MAX_JOBS], completions[CUDLOMER_MAX_JOBS];
 };
 
 /* A row of a trace: the job runs from one time to another without a break. */
@@ -103,7 +104,8 @@ CUDLOMER_PLACE(cudlomer_job, deadline, 6);
 CUDLOMER_SIZE(cudlomer_job, 7);
 CUDLOMER_PLACE(cudlomer_state, time, 0);
 CUDLOMER_PLACE(cudlomer_state, work, 1);
-CUDLOMER_SIZE(cudlomer_state, 1 + CUDLOMER_MAX_JOBS);
+CUDLOMER_PLACE(cudlomer_state, completions, 1 + CUDLOMER_MAX_JOBS);
+CUDLOMER_SIZE(cudlomer_state, 1 + 2 * CUDLOMER_MAX_JOBS);
 CUDLOMER_PLACE(cudlomer_row, chain, 0);
 CUDLOMER_PLACE(cudlomer_row, job, 1);
 CUDLOMER_PLACE(cudlomer_row, from, 2);
@@ -130,8 +132,8 @@ int64_t cudlomer_rounds(const uint8_t *text, size_t text_length);
 /* ---- On sets, as plain numbers ----
  *
  * Each does what the function on structs of the same name does, which is told there. A job is seven numbers in the order of the columns, a row
- * four, a state 65: the time and 64 numbers of work. A length counts numbers, or the bytes of a text. Where jobs_length is no multiple of seven,
- * the last job's missing numbers are 0. */
+ * four, a state 129: the time, 64 numbers of work and 64 of completions; a tick refuses a shorter one with 9, before 11. A length counts numbers,
+ * or the bytes of a text. Where jobs_length is no multiple of seven, the last job's missing numbers are 0. */
 int64_t cudlomer_set_read(const uint8_t *text, size_t text_length, uint64_t *jobs, size_t jobs_length);
 int64_t cudlomer_set_write(const uint64_t *jobs, size_t jobs_length, uint8_t *out, size_t out_length);
 int64_t cudlomer_set_bounds(const uint64_t *jobs, size_t jobs_length, uint64_t algorithm, uint64_t *out, size_t out_length);
@@ -193,11 +195,13 @@ static inline int64_t cudlomer_jobs_admit(struct cudlomer_job *jobs, size_t room
                               CUDLOMER_NUMBERS(cudlomer_job, chain_count), algorithm);
 }
 
-/* Applies one tick to the state: of the jobs released by its time whose predecessor is complete, the most urgent runs, among equals that of the
- * lowest chain. `times` is how long each job takes in this run, from its least to its most. Answers CUDLOMER_IDLE where none is ready;
- * CUDLOMER_FINISHED where all were complete before, and the state then stays; else which job ran, for the three functions below. Refuses with 4
- * to 7, with 8, then with 11 where the state has a time beyond CUDLOMER_LAST_TIME, or a job with more work than its time, or with work though its
- * predecessor is not complete or the time is not after its release. */
+/* Applies one tick to the state: of the jobs released by its time whose predecessor is complete, the most urgent runs, among equals the one ready
+ * since the earliest time, then that of the lowest chain. A job is ready since its release or its predecessor's completion, whichever is later,
+ * also where a more urgent job interrupts it. `times` is how long each job takes in this run, from its least to its most. Answers CUDLOMER_IDLE
+ * where none is ready; CUDLOMER_FINISHED where all were complete before, and the state then stays; else which job ran, for the three functions
+ * below. Refuses with 4 to 7, with 8, then with 11 where the state has a time beyond CUDLOMER_LAST_TIME; or a job with more work than its time, or
+ * with work though its predecessor is not complete or the time is not after its release; or a complete job whose completion is later than the
+ * time or not after its release. */
 static inline int64_t cudlomer_jobs_tick(const struct cudlomer_job *jobs, size_t count, const uint64_t *times, size_t times_count,
                                          struct cudlomer_state *state)
 {

@@ -94,10 +94,11 @@ static void check_run(struct ranges timed)
     check_sizes("set_waveform", set_waveform, timed, 1, bytes < 0 ? 40 : (size_t)bytes, bytes);
 }
 
-/* Ticks from a state on; beyond the jobs `before` holds what it did. */
-static void check_ticks(struct ranges timed, const uint64_t *state, size_t length)
+/* Ticks from a state of so many jobs on; beyond them `before` holds what it did. */
+static void check_ticks(struct ranges timed, const struct cudlomer_state *state, size_t jobs_count)
 {
-    memcpy(before, state, length * WORD);
+    memcpy(before, state, (1 + jobs_count) * WORD);
+    memcpy(before + offsetof(struct cudlomer_state, completions), state->completions, jobs_count * WORD);
     for (int ticks = 0; ticks < MOST_TICKS; ticks++) {
         int64_t answer = call_with_room(set_tick, timed);
         check_sizes("set_tick", set_tick, timed, WORD, sizeof(struct cudlomer_state), answer);
@@ -107,20 +108,43 @@ static void check_ticks(struct ranges timed, const uint64_t *state, size_t lengt
     }
 }
 
-/* Running times and a state of a set, each as they can be and damaged. */
+/* A state in which all jobs are complete but the last, which lacks one tick. */
+static struct cudlomer_state last_state(const uint64_t *times, size_t jobs_count)
+{
+    struct cudlomer_state state = { .time = CUDLOMER_LAST_TIME - MOST_TICKS };
+    for (size_t i = 0; i < jobs_count; i++) {
+        state.work[i] = times[i];
+        state.completions[i] = state.time;
+    }
+    state.work[jobs_count - 1]--;
+    return state;
+}
+
+/* The state as it can be, and with a number damaged: the time, a job's work or its completion. */
+static void check_state(struct ranges timed, struct cudlomer_state state, size_t jobs_count)
+{
+    check_ticks(timed, &state, jobs_count);
+    if (draw(0, 1) == 0)
+        damage_numbers((uint64_t *)&state, 1 + jobs_count);
+    else
+        damage_numbers(state.completions, jobs_count);
+    check_ticks(timed, &state, jobs_count);
+}
+
+/* Running times and states of a set, each as they can be and damaged. */
 static void check_machine(const uint64_t *numbers, size_t length, const struct cudlomer_job *jobs, size_t jobs_count)
 {
-    uint64_t times[CUDLOMER_MAX_JOBS], state[1 + CUDLOMER_MAX_JOBS] = { 0 };
+    uint64_t times[CUDLOMER_MAX_JOBS];
+    struct cudlomer_state start = { 0 };
     for (size_t i = 0; i < jobs_count; i++)
         times[i] = draw(jobs[i].least, jobs[i].most);
     struct ranges timed = { numbers, times, length * WORD, jobs_count * WORD };
     check_run(timed);
-    check_ticks(timed, state, 1 + jobs_count);
-    damage_numbers(state, 1 + jobs_count);
-    check_ticks(timed, state, 1 + jobs_count);
+    check_state(timed, start, jobs_count);
+    check_state(timed, last_state(times, jobs_count), jobs_count);
     timed.second_size = damage_numbers(times, jobs_count) * WORD;
     check_run(timed);
-    check_ticks(timed, state, 1 + jobs_count);
+    check_state(timed, start, jobs_count);
 }
 
 /* Numbers that are a set, or were one before they were damaged, and the jobs that they were; the last jobs are also tried as a chain. */

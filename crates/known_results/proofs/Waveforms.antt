@@ -14,7 +14,8 @@ use Rattle.jobs.specs.Checks.{isNext, inLimits, recordCheck, recordsCheck, chec
 use Rattle.jobs.specs.Jobs.{urgencyOf}
 use Rattle.theory.specs.Table.{joined, effectiveRelease, tableOf}
 use Rattle.theory.specs.Runs.{complete, predecessorComplete, ready, timesFit}
-use Rattle.machine.specs.Ticks.{lastTime, allComplete, machineCheck, outranks, better, bestUpTo, pick, next}
+use Rattle.machine.specs.Order.{readySince, outranks}
+use Rattle.machine.specs.Ticks.{lastTime, allComplete, machineCheck, better, bestUpTo, pick, next}
 use Rattle.machine.specs.Runs.{noted}
 use Rattle.machine.proofs.Forward.{onward, carried, trace-carried}
 use Rattle.dumps.specs.Identifiers.{identifierOf}
@@ -30,7 +31,7 @@ unfolding waveformWith waveformOf
 settled-waveform w end passed early done known = rw (trace-carried (w .0) (w .1) passed end early done, known)
 
 pub known-waveforms : map waveformWith waveforms ≡ waveforms
-unfolding urgencyOf tabulate lastOf isNext inLimits recordCheck recordsCheck checkOf joined effectiveRelease everyBelow timesFit machineCheck complete predecessorComplete ready outranks better bestUpTo pick next noted onward carried dumpOf linesText headerLines startLines changeLines declares identifierOf decimal digitsUpTo runsFirst
+unfolding urgencyOf tabulate lastOf isNext inLimits recordCheck recordsCheck checkOf joined effectiveRelease everyBelow timesFit machineCheck complete predecessorComplete ready readySince outranks better bestUpTo pick next noted onward carried dumpOf linesText headerLines startLines changeLines declares identifierOf decimal digitsUpTo runsFirst
 known-waveforms =
     first-and-rest (settled-waveform p4Waveform 8 refl (omega arith) refl refl)
     (first-and-rest (settled-waveform p2Waveform 245 refl (omega arith) refl refl)

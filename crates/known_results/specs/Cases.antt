@@ -1,5 +1,6 @@
--- Tables with known results: document 01, P1 to P8, and Tables 1 to 3 of source document 004 for P1. A deadline, priority or least time that it does
--- not give is chosen here; of runs it gives the rows of P2, a completion of P3 and the end of P4, and the rest is worked out by hand. Assumes nothing.
+-- Tables with known results: document 01, P1 to P8, Tables 1 to 3 of source document 004 for P1, and the example of document 02, R-2. A deadline,
+-- priority or least time that they do not give is chosen here; of runs they give the rows of P2 and of R-2's example, a completion of P3 and the end
+-- of P4, and the rest is worked out by hand. Assumes nothing.
 use Rattle.laws.specs.Words.{ℕ, Bool, true, false, List, [], _∷_, _++_, map, length, getD, ℤ, pos, negℤ, numberAt, tabulate}
 use Rattle.jobs.specs.{declared.job.Job.Job, declared.refusal.Check.Check, Jobs.job, Jobs.jobAt, Checks.checkOf}
 use Rattle.theory.specs.{Table.tableOf, Bounds.interferenceAt, Bounds.ert, Bounds.cja, Bounds.itr, Bounds.slacks, Bounds.meets}
@@ -104,6 +105,14 @@ p7 = ((job 1 1 0 1 5 5 5, 0, 3, 8, 8, 5, pos 0) ∷ (job 2 1 5 2 3 3 8, 5, 0, 8,
 abbrev pub p8 : Case
 p8 = ((job 1 1 0 1 5 5 5, 0, 3, 8, 8, 8, minus 3) ∷ (job 2 1 4 2 3 3 8, 4, 0, 7, 7, 7, pos 1) ∷ [], (Check.Passed, 2, false), [])
 
+-- R-2's example: of two equals the one that became ready earlier, of the higher chain number, is not displaced.
+abbrev pub equalsInOrder : Case
+equalsInOrder = (
+  (job 1 1 2 1 3 3 9, 2, 4, 9, 9, 9, pos 0) ∷ (job 2 1 0 1 4 4 7, 0, 3, 7, 7, 7, pos 0) ∷ [],
+  (Check.Passed, 2, true),
+  (3 ∷ 4 ∷ [], (7 ∷ 4 ∷ [], 7), row 2 1 0 4 ++ row 1 1 4 7) ∷ [],
+)
+
 -- The table of cases.
 abbrev pub cases : List Case
-cases = p1 ∷ p4 12 (pos 0) true ∷ p4 11 (minus 1) false ∷ p5 ∷ p6 ∷ p7 ∷ p8 ∷ []
+cases = p1 ∷ p4 12 (pos 0) true ∷ p4 11 (minus 1) false ∷ p5 ∷ p6 ∷ p7 ∷ p8 ∷ equalsInOrder ∷ []

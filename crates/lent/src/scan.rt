@@ -1,25 +1,25 @@
 // The scan over lent job records, which changes none.
-// What is promised of one record holds for any jobs js, where the scan is of those before the place `at` and the record is the one there.
-ghost use Rattle.laws.specs.Words.{_≡_, ℕ, suc, _-_, _≤_, cond, _&&_, List, length, leb, ltb, eqb};
-ghost use Rattle.jobs.specs.{Limits.maxJobs, Jobs.jobAt, Jobs.jobsOf};
+ghost use Rattle.laws.specs.Words.{_≡_, suc, true, _-_, _<_, _≤_, min, max, cond, not, _&&_, _||_, List, length, numberAt, leb, ltb, eqb};
+ghost use Rattle.jobs.specs.{Limits.maxJobs, Jobs.jobAt, Jobs.jobsOf, Jobs.urgencyOf};
 ghost use Rattle.theory.specs.Table.{tableOf};
-ghost use Rattle.machine.specs.{Ticks.readyIn, Ticks.bestUpTo};
+ghost use Rattle.machine.specs.Ticks.{better, bestUpTo};
 ghost use Rattle.machine.proofs.Scanned.{scanned};
 use jobs::job::Job;
 use jobs::set::JobSet;
 use machine::pick::Best;
 use machine::pick::better_of;
+use machine::rank::Rank;
 use machine::state::State;
 use numbers::number::number_at;
 
-// What a scan knows: the most urgent ready job so far and, of the last record, chain, least time, whether it is complete, and whether and how long released.
+// What a scan knows: the best ready job so far and, of the last record, its chain, its least time, whether it is complete, and whether and how long it is released.
 struct Scan {
     best: Best,
     last: u64,
     least: u64,
     done: bool,
     released: bool,
-    since: u64,
+    elapsed: u64,
 }
 
 // The first number minus the second, 0 where that is larger.
@@ -39,25 +39,25 @@ fn is_following(scan: Scan, job: Job, at: usize) -> bool
     (0 < at) & (scan.last == job.chain)
 }
 
-// Whether the effective release of a record is at most the time.
-fn is_released(scan: Scan, job: Job, at: usize, time: u64) -> bool
-    ensures { λ r. ⌜ ((js : List Job) (times : List ℕ) (s : State) → (scan .best, scan .last, scan .least, scan .done, scan .released, scan .since) ≡ scanned js times s at → job ≡ jobAt js at → time ≡ s .time → r ≡ leb (tableOf js .earliest at) time) ⌝ }
+// Whether the effective release of a record is at most the time; `follows` says whether it is of the chain of the one before it.
+fn is_released(scan: Scan, job: Job, follows: bool, time: u64) -> bool
+    ensures { λ r. ⌜ r ≡ cond follows (leb (job .release) time && (scan .released && leb (scan .least) (scan .elapsed))) (leb (job .release) time) ⌝ }
 {
-    if !is_following(scan, job, at) {
+    if !follows {
         return job.release <= time;
     }
-    (job.release <= time) & (scan.released & (scan.least <= scan.since))
+    (job.release <= time) & (scan.released & (scan.least <= scan.elapsed))
 }
 
 // The ticks since the effective release of a record, 0 where it is not released.
-fn since_release(scan: Scan, job: Job, at: usize, time: u64) -> u64
-    ensures { λ r. ⌜ ((js : List Job) (times : List ℕ) (s : State) → (scan .best, scan .last, scan .least, scan .done, scan .released, scan .since) ≡ scanned js times s at → job ≡ jobAt js at → time ≡ s .time → r ≡ time - tableOf js .earliest at) ⌝ }
+fn since_release(scan: Scan, job: Job, follows: bool, time: u64) -> u64
+    ensures { λ r. ⌜ r ≡ cond follows (min (time - job .release) (scan .elapsed - scan .least)) (time - job .release) ⌝ }
 {
     let own = minus(time, job.release);
-    if !is_following(scan, job, at) {
+    if !follows {
         return own;
     }
-    let chain = minus(scan.since, scan.least);
+    let chain = minus(scan.elapsed, scan.least);
     if chain < own {
         return chain;
     }
@@ -65,48 +65,76 @@ fn since_release(scan: Scan, job: Job, at: usize, time: u64) -> u64
 }
 
 // Whether a record is ready.
-fn is_ready_record(scan: Scan, job: Job, at: usize, times: &[u64], state: State) -> bool
-    ensures { λ r. ⌜ ((js : List Job) → (scan .best, scan .last, scan .least, scan .done, scan .released, scan .since) ≡ scanned js (now (times .entry)) state at → job ≡ jobAt js at → r ≡ readyIn (tableOf js) (now (times .entry)) state at) ⌝ }
+fn is_ready_record(scan: Scan, follows: bool, released: bool, done: bool) -> bool
+    ensures { λ r. ⌜ r ≡ released && not done && (not follows || scan .done) ⌝ }
 {
-    let work = state.work;
-    if !is_released(scan, job, at, state.time) {
+    if !released {
         return false;
     }
-    if number_at(&work, at) == number_at(times, at) {
+    if done {
         return false;
     }
-    if is_following(scan, job, at) {
+    if follows {
         return scan.done;
     }
     true
 }
 
-// The best of a scan after one more record.
-fn best_after(scan: Scan, job: Job, at: usize, times: &[u64], state: State) -> Best
-    ensures { λ r. ⌜ ((js : List Job) → (scan .best, scan .last, scan .least, scan .done, scan .released, scan .since) ≡ scanned js (now (times .entry)) state at → job ≡ jobAt js at → r ≡ bestUpTo (tableOf js) (now (times .entry)) state (suc at)) ⌝ }
+// Since when a released record is ready: its release, or its predecessor's completion where that is later.
+// The release is the time less the ticks since, because a sum over records that nobody checked could wrap.
+fn ready_since(follows: bool, at: usize, elapsed: u64, state: State) -> u64
+    requires { ⌜ (follows ≡ true → 0 < at) ⌝ }
+    ensures { λ r. let release = state .time - elapsed in ⌜ r ≡ cond follows (max release (numberAt (state .completions) (at - 1))) release ⌝ }
 {
-    if is_ready_record(scan, job, at, times, state) {
-        return better_of(scan.best, at, Job::urgency(job), job.chain);
+    let completions = state.completions;
+    let release = minus(state.time, elapsed);
+    if !follows {
+        return release;
     }
-    scan.best
+    let completed = number_at(&completions, at - 1);
+    if release < completed {
+        return completed;
+    }
+    release
+}
+
+// The best of a scan after a record that is ready since a time, or not ready.
+fn best_after(best: Best, job: Job, at: usize, ready: bool, since: u64) -> Best
+    ensures { λ r. ⌜ r ≡ cond ready (better best at (record { urgency = urgencyOf job; since = since; chain = job .chain })) best ⌝ }
+{
+    if !ready {
+        return best;
+    }
+    let rank = Rank {
+        urgency: Job::urgency(job),
+        since,
+        chain: job.chain,
+    };
+    better_of(best, at, rank)
 }
 
 // One record is looked at.
+// Its promise holds for any jobs js, where the scan is of those before the place `at` and the record is the one there.
 fn look_at(scan: Scan, job: Job, at: usize, times: &[u64], state: State) -> Scan
-    ensures { λ r. ⌜ ((js : List Job) → (scan .best, scan .last, scan .least, scan .done, scan .released, scan .since) ≡ scanned js (now (times .entry)) state at → job ≡ jobAt js at → (r .best, r .last, r .least, r .done, r .released, r .since) ≡ scanned js (now (times .entry)) state (suc at)) ⌝ }
+    ensures { λ r. ⌜ ((js : List Job)
+        → (scan .best, scan .last, scan .least, scan .done, scan .released, scan .elapsed) ≡ scanned js (now (times .entry)) state at
+        → job ≡ jobAt js at
+        → (r .best, r .last, r .least, r .done, r .released, r .elapsed) ≡ scanned js (now (times .entry)) state (suc at)) ⌝ }
 {
     let work = state.work;
+    let follows = is_following(scan, job, at);
+    let released = is_released(scan, job, follows, state.time);
+    let elapsed = since_release(scan, job, follows, state.time);
     let done = number_at(&work, at) == number_at(times, at);
-    let best = best_after(scan, job, at, times, state);
-    let released = is_released(scan, job, at, state.time);
-    let since = since_release(scan, job, at, state.time);
+    let ready = is_ready_record(scan, follows, released, done);
+    let since = ready_since(follows, at, elapsed, state);
     Scan {
-        best,
+        best: best_after(scan.best, job, at, ready, since),
         last: job.chain,
         least: job.least,
         done,
         released,
-        since,
+        elapsed,
     }
 }
 
@@ -118,14 +146,17 @@ pub fn most_urgent(jobs: &[Job], times: &[u64], state: State) -> Best
         best: Best {
             found: false,
             at: 0,
-            urgency: 0,
-            chain: 0,
+            rank: Rank {
+                urgency: 0,
+                since: 0,
+                chain: 0,
+            },
         },
         last: 0,
         least: 0,
         done: false,
         released: false,
-        since: 0,
+        elapsed: 0,
     };
     let mut i: usize = 0;
     while i < jobs.len() {
@@ -156,7 +187,10 @@ pub fn most_urgent_of(set: JobSet, times: &[u64], state: State) -> Best
     Best {
         found: false,
         at: 0,
-        urgency: 0,
-        chain: 0,
+        rank: Rank {
+            urgency: 0,
+            since: 0,
+            chain: 0,
+        },
     }
 }

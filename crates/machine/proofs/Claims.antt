@@ -3,12 +3,13 @@ use Prim.Native.Nat.{ℕ, zero, suc, _*_, _≤_, _<_}
 use mathlib.Core.Path.{_≡_, refl, ap, _∙_}
 use mathlib.Core.Bool.{Bool, true, false, cond}
 use mathlib.Core.List.{List}
-use mathlib.Core.Logic.{_↔_}
+use mathlib.Core.Logic.{_⊎_, _↔_}
 use native.Mathlib.Omega.{arith}
 use native.Mathlib.Nat.{zero-add}
 use lib.ListN.{length}
 use Rattle.laws.specs.Words.{tabulate, numberAt}
 use Rattle.laws.proofs.Tests.{by-test, by-order}
+use Rattle.laws.proofs.Sums.{sum-mono}
 use Rattle.laws.proofs.Tabulate.{getD-tabulate}
 use Rattle.jobs.specs.declared.job.Job.{Job}
 use Rattle.jobs.specs.declared.refusal.Check.the-variants.{Passed}
@@ -18,21 +19,26 @@ use Rattle.theory.specs.Bounds.{itr}
 use Rattle.theory.specs.Runs.{Entry, idle, runs, names, work, complete, isRun}
 use Rattle.theory.proofs.AcceptedSets.{accepted-well}
 use Rattle.theory.proofs.Releases.{earliest-latest}
-use Rattle.theory.proofs.Legal.{complete-eq, releases-to, run-by, run-from}
+use Rattle.theory.proofs.Legal.{complete-eq, times-from, releases-to, run-by, run-from}
 use Rattle.theory.proofs.Work.{named, legal-at, complete-stays}
 use Rattle.theory.proofs.Claims.{claims as Theory·claims}
 use Rattle.machine.specs.declared.state.State.{State}
 use Rattle.machine.specs.declared.step.Ticked.{Ticked}
 use Rattle.machine.specs.declared.step.Ticked.the-variants.{Finished}
-use Rattle.machine.specs.Ticks.{lastTime, allComplete, machineCheck, pick, ranAs, tickOf}
-use Rattle.machine.specs.Runs.{entry, completion, finish, completions, traced}
+use Rattle.machine.specs.Ticks.{lastTime, allComplete, machineCheck, stateCheck, pick, ranAs, tickOf}
+use Rattle.machine.specs.Runs.{after, entry, completion, finish, completions, traced}
 use Rattle.machine.specs.Claims.{spanEntry, EveryMachine}
-use Rattle.machine.proofs.RunningTimes.{set-passed, set-accepted, times-fit}
+use Rattle.machine.proofs.RunningTimes.{sumOf, set-passed, set-accepted, times-fit}
 use Rattle.machine.proofs.Course.{all-sum, going-ends}
 use Rattle.machine.proofs.Running.{lastRelease, few-jobs, released-by, goes, work-limit}
 use Rattle.machine.proofs.Spans.{spans-within-twice}
 use Rattle.machine.proofs.Legality.{run-length, run-entry, entries-legal}
 use Rattle.machine.proofs.Reading.{spans-give-back}
+use Rattle.machine.proofs.Completions.{kept-complete}
+use Rattle.machine.proofs.Equals.{equals-not-displaced}
+use Rattle.machine.proofs.Possible.{state-possible}
+use Rattle.machine.proofs.Written.{completion-written, completion-kept}
+use Rattle.machine.proofs.Unread.{completions-unread}
 
 -- ---- in any state
 -- "finished" is no answer of a tick with an entry
@@ -101,6 +107,22 @@ module _ (js : List Job) (times : List ℕ) (passed : machineCheck js times ≡ 
         = getD-tabulate 0 maxJobs (λ k. completion t times k lastTime) 0 u (omega (arith, few-jobs js times passed)) ∙ ap (λ (k : ℕ). completion t times k lastTime) (zero-add u) in
         rw e (completion-bound lastTime)
 
+  not-displaced : (n u v : ℕ) → entry t times n ≡ runs u → complete times (numberAt (after t times (suc n) .work)) u ≡ false
+      → entry t times (suc n) ≡ runs v → (v ≡ u) ⊎ (t .urgency u < t .urgency v)
+  not-displaced = equals-not-displaced t times lastRelease (few-jobs js times passed) (released-by js times passed)
+
+  state-completions : (n u : ℕ) → complete times (numberAt (after t times n .work)) u ≡ true → numberAt (after t times n .completions) u ≡ completion t times u n
+  state-completions = kept-complete t times lastRelease (few-jobs js times passed) (released-by js times passed)
+
+  positive : (u : ℕ) → u < length js → 0 < numberAt times u
+  positive u l = omega (arith, times-from t times (times-fit js times passed) .low u l, set-accepted js times passed .limits u l .positive)
+
+  run-possible : (n : ℕ) → stateCheck t times (after t times n) ≡ Passed
+  run-possible n =
+      let g = goes js times passed n in
+      let done : sumOf (after t times n .work) (length js) ≤ sumOf times (length js) = sum-mono (length js) (λ i. numberAt (after t times n .work) i) (λ i. numberAt times i) (g .within) in
+      state-possible t times lastRelease (few-jobs js times passed) (released-by js times passed) positive n (omega (arith, g .early, done, work-limit js times passed))
+
   trace-gives-back : (n : ℕ) → n < lastTime → spanEntry (traced js times) n ≡ entry t times n
   trace-gives-back n l = spans-give-back t times lastTime n l
 
@@ -114,6 +136,12 @@ claims js times passed =
       finished-when = finished-when js times;
       machine-legal = machine-legal js times passed;
       machine-keeps-bounds = machine-keeps-bounds js times passed;
+      equals-not-displaced = not-displaced js times passed;
+      completion-written = completion-written js times (few-jobs js times passed);
+      completion-kept = completion-kept js times (few-jobs js times passed);
+      completions-unread = completions-unread js times (few-jobs js times passed);
+      state-completions = state-completions js times passed;
+      run-possible = run-possible js times passed;
       trace-gives-back = trace-gives-back js times passed;
       trace-within-twice = trace-within-twice js times passed;
     }

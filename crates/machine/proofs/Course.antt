@@ -21,7 +21,7 @@ use Rattle.machine.specs.Runs.{after}
 use Rattle.laws.proofs.Every.{every-at, first-failing}
 use Rattle.theory.proofs.Legal.{complete-eq, complete-ne, parts-ready}
 use Rattle.machine.proofs.RunningTimes.{sumOf}
-use Rattle.machine.proofs.Readiness.{predecessor-all, worked-here, worked-other}
+use Rattle.machine.proofs.Readiness.{predecessor-all, worked-here, worked-other, noted-here, noted-open, noted-other}
 use Rattle.machine.proofs.Ticking.{pick-chosen, pick-none, pick-open, pick-left, next-moved, next-stays}
 
 -- ---- work, added up
@@ -60,6 +60,17 @@ none-done zero i = refl
 none-done (suc n) zero = refl
 none-done (suc n) (suc i) = none-done n i
 
+-- where no completion is later than the time, none is after a tick
+noted-past : (times : List ℕ) (s : State) (u : ℕ) → u < length (s .completions) → ((k : ℕ) → getD (s .completions) k 0 ≤ s .time)
+    → (k : ℕ) → getD (moved times (runs u) s .completions) k 0 ≤ s .time + 1
+noted-past times s u room past k =
+    by-equal k u
+    (λ e.
+    by-equal (getD (s .work) u 0 + 1) (getD times u 0)
+    (λ all. rw e (omega (arith, noted-here times s u room all)))
+    (λ left. rw (noted-open times s u left) (omega (arith, past k))))
+    (λ ne. omega (arith, noted-other times s u k ne, past k))
+
 module _ (t : Table) (times : List ℕ) where
   pub after-next : (n : ℕ) → after t times (suc n) ≡ next t times (after t times n)
   unfolding after
@@ -82,6 +93,8 @@ module _ (t : Table) (times : List ℕ) where
   module _ (R : ℕ) (few : t .count ≤ maxJobs) (released : (u : ℕ) → u < t .count → t .earliest u ≤ R) where
     pub record Going (n : ℕ) (s : State) : Type 0 where
       pub long : length (s .work) ≡ maxJobs
+      pub noted : length (s .completions) ≡ maxJobs
+      pub past : (u : ℕ) → getD (s .completions) u 0 ≤ s .time
       pub within : (u : ℕ) → u < t .count → getD (s .work) u 0 ≤ getD times u 0
       pub early : s .time ≤ R + sumOf (s .work) (t .count)
       pub far : (allComplete times (s .work) (t .count) ≡ true) ⊎ ((s .time ≡ n) × (n ≤ R + sumOf (s .work) (t .count)))
@@ -104,14 +117,23 @@ module _ (t : Table) (times : List ℕ) where
         omega (arith, within u (c .inside))
 
     going-moved : (n : ℕ) (s : State) → Going n s → allComplete times (s .work) (t .count) ≡ false → s .time ≡ n → n ≤ R + sumOf (s .work) (t .count)
-        → (e : Entry) → pick t times s ≡ e → Going (suc n) (moved e s)
+        → (e : Entry) → pick t times s ≡ e → Going (suc n) (moved times e s)
     going-moved n s g h now far idle q =
-        record { long = g .long; within = g .within; early = omega (arith, idle-early s q h); far = inr (omega arith, omega (arith, idle-early s q h)) }
+        record {
+          long = g .long;
+          noted = g .noted;
+          past = λ u. omega (arith, g .past u);
+          within = g .within;
+          early = omega (arith, idle-early s q h);
+          far = inr (omega arith, omega (arith, idle-early s q h));
+        }
     going-moved n s g h now far (runs u) q =
         let c = pick-chosen t times s u q in
         let room : u < length (s .work) = omega (arith, c .inside, g .long) in
         record {
           long = length-set (s .work) u (getD (s .work) u 0 + 1) ∙ g .long;
+          noted = length-set (s .completions) u _ ∙ g .noted;
+          past = noted-past times s u (omega (arith, c .inside, g .noted)) (g .past);
           within = worked-within times (s .work) (t .count) u (g .within) (runs-left s u q (g .within)) room;
           early = omega (arith, g .early, sum-worked (s .work) u (t .count) (c .inside) room);
           far = inr (omega arith, omega (arith, sum-worked (s .work) u (t .count) (c .inside) room));
@@ -120,16 +142,24 @@ module _ (t : Table) (times : List ℕ) where
     going-next : (n : ℕ) (s : State) → Going n s → Going (suc n) (next t times s)
     going-next n s g =
         by-test (allComplete times (s .work) (t .count))
-        (λ h. rw (next-stays t times s h) (record { long = g .long; within = g .within; early = g .early; far = inl h }))
+        (λ h. rw (next-stays t times s h) (record { long = g .long; noted = g .noted; past = g .past; within = g .within; early = g .early; far = inl h }))
         (λ h. rw (next-moved t times s (pick t times s) refl h) (by-far h (g .far)))
       where
-        by-far : allComplete times (s .work) (t .count) ≡ false → (allComplete times (s .work) (t .count) ≡ true) ⊎ ((s .time ≡ n) × (n ≤ R + sumOf (s .work) (t .count))) → Going (suc n) (moved (pick t times s) s)
+        by-far : allComplete times (s .work) (t .count) ≡ false → (allComplete times (s .work) (t .count) ≡ true) ⊎ ((s .time ≡ n) × (n ≤ R + sumOf (s .work) (t .count))) → Going (suc n) (moved times (pick t times s) s)
         by-far h (inl d) = absurd (both-ways d h)
         by-far h (inr f) = going-moved n s g h (f .0) (f .1) (pick t times s) refl
 
     pub going : (n : ℕ) → Going n (after t times n)
     unfolding after
-    going zero = record { long = length-replicate {A = ℕ} maxJobs 0; within = λ u l. omega (arith, none-done maxJobs u); early = omega arith; far = inr (refl, omega arith) }
+    going zero =
+        record {
+          long = length-replicate {A = ℕ} maxJobs 0;
+          noted = length-replicate {A = ℕ} maxJobs 0;
+          past = λ u. omega (arith, none-done maxJobs u);
+          within = λ u l. omega (arith, none-done maxJobs u);
+          early = omega arith;
+          far = inr (refl, omega arith);
+        }
     going (suc n) = going-next n (after t times n) (going n)
 
     -- while there is work left the time is the number of ticks

@@ -1,48 +1,36 @@
--- A run carried forward from one tick to the next: its state, completions and spans together, so that a run of n ticks is computed in n steps.
+-- A run carried forward from one tick to the next: its state and spans together, so that a run of n ticks is computed in n steps.
 -- Assumes nothing of the table; of a set, that it and its running times have passed.
 --   Carried         what is known after some ticks
 --   carried         the same after n ticks
 --   run-carried     where all work is done after n ticks, the answer of the run
 --   trace-carried   the same of the trace
-use Prim.Native.Nat.{ℕ, zero, suc, _+_, _≤_}
-use mathlib.Core.Path.{_≡_, refl, sym, ap, subst, _∙_}
+use Prim.Native.Nat.{ℕ, zero, suc, _≤_}
+use mathlib.Core.Path.{_≡_, refl, sym, ap, _∙_}
 use mathlib.Core.Bool.{true}
 use mathlib.Core.List.{List, []}
-use native.Mathlib.Omega.{arith}
-use native.Mathlib.Numerals.{add-one}
-use lib.ListN.{length, set, replicate}
+use lib.ListN.{length}
 use Rattle.jobs.specs.declared.job.Job.{Job}
 use Rattle.jobs.specs.declared.refusal.Check.the-variants.{Passed}
-use Rattle.jobs.specs.Limits.{maxJobs}
 use Rattle.theory.specs.Table.{Table, tableOf}
-use Rattle.theory.specs.Runs.{Entry, idle, runs}
 use Rattle.machine.specs.declared.state.State.{State}
 use Rattle.machine.specs.declared.trace.Span.{Span}
 use Rattle.machine.specs.Ticks.{lastTime, start, allComplete, machineCheck, pick, next}
 use Rattle.machine.specs.Runs.{after, entry, runOf, noted, spans, traced}
-use Rattle.machine.proofs.Ticking.{pick-chosen}
-use Rattle.machine.proofs.Course.{after-settled}
-use Rattle.machine.proofs.Running.{at-limit, few-jobs, Noted, noted-start, noted-ran, noted-idle, noted-settled, run-done}
+use Rattle.machine.proofs.Running.{at-limit, run-settled}
 use Rattle.machine.proofs.Tracing.{spans-settled}
 
 pub record Carried : Type 0 where
   pub state : State
-  pub completed : List ℕ
   pub spans : List Span
-
--- a job that ran in tick n is complete at the end of it, as far as these ticks go
-abbrev marked : List ℕ → ℕ → Entry → List ℕ
-marked column n idle = column
-marked column n (runs u) = set column u (n + 1)
 
 -- tick n
 unfoldable pub onward : Table → List ℕ → ℕ → Carried → Carried
 onward t times n c =
     let e = pick t times (c .state) in
-    record { state = next t times (c .state); completed = marked (c .completed) n e; spans = noted (c .spans) n e }
+    record { state = next t times (c .state); spans = noted (c .spans) n e }
 
 unfoldable pub carried : Table → List ℕ → ℕ → Carried
-carried t times zero = record { state = start; completed = replicate maxJobs 0; spans = [] }
+carried t times zero = record { state = start; spans = [] }
 carried t times (suc n) = onward t times n (carried t times n)
 
 module _ (t : Table) (times : List ℕ) where
@@ -64,28 +52,12 @@ module _ (js : List Job) (times : List ℕ) (passed : machineCheck js times ≡ 
   abbrev t : Table
   t = tableOf js
 
-  noted-marked : (column : List ℕ) (n : ℕ) → Noted js times column n → (e : Entry) → entry t times n ≡ e → Noted js times (marked column n e) (n + 1)
-  unfolding entry
-  noted-marked column n h idle q = noted-idle js times passed h q
-  noted-marked column n h (runs u) q =
-      noted-ran js times passed h u (omega (arith, pick-chosen t times (after t times n) u q .inside, few-jobs js times passed)) q
-
-  pub carried-noted : (n : ℕ) → Noted js times (carried t times n .completed) n
-  unfolding carried onward
-  carried-noted zero = noted-start js times passed
-  carried-noted (suc n) =
-      subst (Noted js times (carried t times (suc n) .completed)) (add-one n)
-      (noted-marked (carried t times n .completed) n (carried-noted n) (pick t times (carried t times n .state)) (sym (carried-entry t times n)))
-
   module _ (n : ℕ) (early : n ≤ lastTime) (done : allComplete times (carried t times n .state .work) (length js) ≡ true) where
     settled : allComplete times (after t times n .work) (length js) ≡ true
     settled = rw (carried-state t times n) at done
 
-    pub run-carried : runOf js times ≡ record { check = Passed; completions = carried t times n .completed; end = carried t times n .state .time }
-    run-carried =
-        sym (run-done js times passed (carried t times n .state .time) (carried t times n .state .work) (carried t times n .completed)
-        (at-limit (after t times) n (after-settled t times n settled) early ∙ sym (carried-state t times n))
-        (noted-settled js times passed (carried-noted n) settled early))
+    pub run-carried : runOf js times ≡ record { check = Passed; completions = carried t times n .state .completions; end = carried t times n .state .time }
+    run-carried = sym (rw (← carried-state t times n) at (run-settled js times passed n settled early))
 
     pub trace-carried : traced js times ≡ carried t times n .spans
     trace-carried = at-limit (spans t times) n (spans-settled t times n settled) early ∙ sym (carried-spans t times n)

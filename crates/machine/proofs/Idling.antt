@@ -34,7 +34,7 @@ module _ (release : ℕ → ℕ) (time : ℕ) where
       (λ f. omega (arith, time-idle n found r f e, next-after lastTime release time l n))
 
 -- ---- between two times with no release after the first and before the second
-module _ (t : Table) (times work : List ℕ) (time b : ℕ) (apart : (u : ℕ) → u < t .count → time < t .earliest u → b ≤ t .earliest u) (s : ℕ) (from : time ≤ s) (to : s < b) where
+module _ (t : Table) (times work completions : List ℕ) (time b : ℕ) (apart : (u : ℕ) → u < t .count → time < t .earliest u → b ≤ t .earliest u) (s : ℕ) (from : time ≤ s) (to : s < b) where
   released-same : (u : ℕ) → u < t .count → leb (t .earliest u) s ≡ leb (t .earliest u) time
   released-same u l =
       same-test (leb (t .earliest u) s) (leb (t .earliest u) time)
@@ -45,15 +45,15 @@ module _ (t : Table) (times work : List ℕ) (time b : ℕ) (apart : (u : ℕ) �
       let past : t .earliest u ≤ time = leb-true (t .earliest u) time h in
       le-leb (t .earliest u) s (omega arith))
 
-  ready-same : (u : ℕ) → u < t .count → readyIn t times (stateOf s work) u ≡ readyIn t times (stateOf time work) u
+  ready-same : (u : ℕ) → u < t .count → readyIn t times (stateOf s work completions) u ≡ readyIn t times (stateOf time work completions) u
   unfolding ready
   ready-same u l = ap (λ (b : Bool). b && not (complete times (numberAt work) u) && predecessorComplete t times (numberAt work) u) (released-same u l)
 
-  best-same : (n : ℕ) → n ≤ t .count → bestUpTo t times (stateOf s work) n ≡ bestUpTo t times (stateOf time work) n
+  best-same : (n : ℕ) → n ≤ t .count → bestUpTo t times (stateOf s work completions) n ≡ bestUpTo t times (stateOf time work completions) n
   unfolding bestUpTo
   best-same zero l = refl
   best-same (suc u) l = rw (ready-same u l, best-same u (omega arith))
 
-  pub pick-same : pick t times (stateOf s work) ≡ pick t times (stateOf time work)
+  pub pick-same : pick t times (stateOf s work completions) ≡ pick t times (stateOf time work completions)
   unfolding pick
   pick-same = rw (best-same (t .count) (omega arith))

@@ -1,24 +1,25 @@
--- Ready jobs: what it takes, and what one more tick of work changes. Assumes nothing.
+-- Ready jobs: what it takes, and what one more tick of work changes, of work and of completions. Assumes nothing.
 use Prim.Native.Nat.{ℕ, zero, suc, _+_, _-_, _<_}
 use mathlib.Core.Path.{_≡_, refl, sym, ap, _∙_}
 use mathlib.Core.Bool.{Bool, true, false, cond}
 use mathlib.Core.List.{List}
 use mathlib.Core.Logic.{_≢_}
 use native.Mathlib.Omega.{arith}
+use lib.Dec.{eqb}
 use lib.ListN.{length, getD, set}
-use lib.Seq.{getD-set-same, getD-set-other}
-use borrow.Author.Tests.{lt-leb}
+use lib.Seq.{getD-set-same, getD-set-other, set-getD}
+use borrow.Author.Tests.{lt-leb, eq-eqb, ne-eqb}
 use Rattle.laws.specs.Words.{numberAt}
 use Rattle.theory.specs.Table.{Table, joined}
-use Rattle.theory.specs.Runs.{complete, predecessorComplete, ready}
+use Rattle.theory.specs.Runs.{runs, complete, predecessorComplete, ready}
 use Rattle.theory.proofs.Columns.{Alike}
 use Rattle.theory.proofs.Legal.{predecessor-next, predecessor-none}
 use Rattle.machine.specs.declared.state.State.{State}
-use Rattle.machine.specs.Ticks.{readyIn}
+use Rattle.machine.specs.Ticks.{readyIn, moved}
 
--- a state by its time and work
-abbrev pub stateOf : ℕ → List ℕ → State
-stateOf time work = record { time = time; work = work }
+-- a state by its figures
+abbrev pub stateOf : ℕ → List ℕ → List ℕ → State
+stateOf time work completions = record { time = time; work = work; completions = completions }
 
 pub early-not-ready : (t : Table) (release : ℕ → ℕ) (times : List ℕ) (work : ℕ → ℕ) (n u : ℕ) → n < release u → ready t release times work n u ≡ false
 unfolding ready
@@ -71,6 +72,22 @@ module _ (times work : List ℕ) (u : ℕ) where
   pub complete-other : (k : ℕ) → k ≢ u → complete times (numberAt worked) k ≡ complete times (numberAt work) k
   unfolding complete
   complete-other k ne = rw (worked-other k ne)
+
+-- ---- the completions after a tick in which the job at u ran
+module _ (times : List ℕ) (s : State) (u : ℕ) where
+  abbrev entryAfter : ℕ
+  entryAfter = cond (eqb (getD (s .work) u 0 + 1) (getD times u 0)) (s .time + 1) (getD (s .completions) u 0)
+
+  -- it is complete
+  pub noted-here : u < length (s .completions) → getD (s .work) u 0 + 1 ≡ getD times u 0 → getD (moved times (runs u) s .completions) u 0 ≡ s .time + 1
+  noted-here l e = getD-set-same (s .completions) u entryAfter 0 l ∙ rw (eq-eqb (getD (s .work) u 0 + 1) (getD times u 0) e)
+
+  -- it is not
+  pub noted-open : getD (s .work) u 0 + 1 ≢ getD times u 0 → moved times (runs u) s .completions ≡ s .completions
+  noted-open ne = rw (ne-eqb (getD (s .work) u 0 + 1) (getD times u 0) ne) (set-getD (s .completions) u 0)
+
+  pub noted-other : (k : ℕ) → k ≢ u → getD (moved times (runs u) s .completions) k 0 ≡ getD (s .completions) k 0
+  noted-other k ne = getD-set-other (s .completions) u k entryAfter 0 ne
 
 -- ---- the predecessor, by the place before
 module _ (t : Table) (times : List ℕ) (work : ℕ → ℕ) (u : ℕ) (l : 0 < u) where

@@ -7,7 +7,7 @@ use native.Mathlib.Omega.{arith}
 use lib.Dec.{leb}
 use lib.ListN.{length, getD}
 use borrow.Author.Tests.{leb-true, lt-leb, le-leb}
-use Rattle.laws.proofs.Tests.{and-left, and-right}
+use Rattle.laws.proofs.Tests.{and-left, and-right, and-parts}
 use Rattle.jobs.specs.declared.job.Job.{Job}
 use Rattle.jobs.specs.declared.set.JobSet.{JobSet}
 use Rattle.jobs.specs.declared.refusal.Refusal.{Refusal}
@@ -24,7 +24,7 @@ use Rattle.machine.specs.declared.state.State.{State}
 use Rattle.machine.specs.declared.pick.Best.{Best}
 use Rattle.machine.specs.declared.step.Ticked.the-variants.{Ran, Idle, Finished, Refused as RefusedTick}
 use Rattle.laws.specs.Words.{everyBelow, numberAt}
-use Rattle.machine.specs.Ticks.{lastTime, allComplete, readyIn, machineCheck, bestUpTo, pick, moved, next, tickOf, possible, stateCheck, stepOf}
+use Rattle.machine.specs.Ticks.{lastTime, allComplete, readyIn, machineCheck, bestUpTo, pick, moved, next, tickOf, workPossible, completionPossible, possible, stateCheck, stepOf}
 use Rattle.laws.proofs.Every.{every-not, every-at, every-ext}
 use Rattle.theory.proofs.Legal.{complete-ne, ready-parts}
 use Rattle.machine.proofs.Readiness.{predecessor-alike}
@@ -52,7 +52,7 @@ module _ (t : Table) (times : List ℕ) (s : State) where
     where
       by-picked : (best : Best) → Picked t times s (t .count) best → cond (best .found) (runs (best .at)) idle ≡ runs u → Chosen t times s (t .count) u
       by-picked best (none f h) e = let q : idle ≡ runs u = rw f at e in let z : _≡_ {A = ℕ} 0 1 = cc in absurd (omega arith)
-      by-picked best (one f p c h) e = let q : runs (best .at) ≡ runs u = rw f at e in let same : best .at ≡ u = cc in rw same at h
+      by-picked best (one f r h) e = let q : runs (best .at) ≡ runs u = rw f at e in let same : best .at ≡ u = cc in rw same at h
 
   pub pick-none : pick t times s ≡ idle → (k : ℕ) → k < t .count → readyIn t times s k ≡ false
   unfolding pick
@@ -60,7 +60,7 @@ module _ (t : Table) (times : List ℕ) (s : State) where
     where
       by-picked : (best : Best) → Picked t times s (t .count) best → cond (best .found) (runs (best .at)) idle ≡ idle → (k : ℕ) → k < t .count → readyIn t times s k ≡ false
       by-picked best (none f h) e = h
-      by-picked best (one f p c h) e = let q : runs (best .at) ≡ idle = rw f at e in let z : _≡_ {A = ℕ} 0 1 = cc in absurd (omega arith)
+      by-picked best (one f r h) e = let q : runs (best .at) ≡ idle = rw f at e in let z : _≡_ {A = ℕ} 0 1 = cc in absurd (omega arith)
 
   pub pick-open : (u : ℕ) → pick t times s ≡ runs u → complete times (numberAt (s .work)) u ≡ false
   pick-open u e = ready-parts t (t .earliest) times (numberAt (s .work)) (s .time) u (pick-chosen u e .is-ready) .unfinished
@@ -69,7 +69,7 @@ module _ (t : Table) (times : List ℕ) (s : State) where
   pick-left u e = every-not (complete times (numberAt (s .work))) (t .count) u (pick-chosen u e .inside) (pick-open u e)
 
   -- the next state
-  pub next-moved : (e : Entry) → pick t times s ≡ e → allComplete times (s .work) (t .count) ≡ false → next t times s ≡ moved e s
+  pub next-moved : (e : Entry) → pick t times s ≡ e → allComplete times (s .work) (t .count) ≡ false → next t times s ≡ moved times e s
   unfolding next
   next-moved e q h = rw (h, q)
 
@@ -80,7 +80,7 @@ module _ (t : Table) (times : List ℕ) (s : State) where
 -- ---- the tick
 module _ (js : List Job) (times : List ℕ) (s : State) where
   pub tick-ran : (u : ℕ) → pick (tableOf js) times s ≡ runs u
-      → tickOf js times s ≡ record { ticked = Ran (jobAt js u .chain) (jobAt js u .job); state = moved (runs u) s }
+      → tickOf js times s ≡ record { ticked = Ran (jobAt js u .chain) (jobAt js u .job); state = moved times (runs u) s }
   unfolding tickOf next
   tick-ran u e = rw (pick-left (tableOf js) times s u e, e)
 
@@ -89,18 +89,33 @@ module _ (js : List Job) (times : List ℕ) (s : State) where
   tick-finished h = rw h
 
   pub tick-idle : pick (tableOf js) times s ≡ idle → allComplete times (s .work) (length js) ≡ false
-      → tickOf js times s ≡ record { ticked = Idle; state = moved idle s }
+      → tickOf js times s ≡ record { ticked = Idle; state = moved times idle s }
   unfolding tickOf next
   tick-idle e h = rw (h, e)
 
 -- ---- number 11
+module _ (t : Table) (times : List ℕ) (s : State) (u : ℕ) where
+  pub not-worked : workPossible t times (numberAt (s .work)) (s .time) u ≡ false → possible t times s u ≡ false
+  unfolding possible
+  not-worked e = rw e
+
+  pub not-completed : workPossible t times (numberAt (s .work)) (s .time) u ≡ true
+      → completionPossible t times (numberAt (s .work)) (numberAt (s .completions)) (s .time) u ≡ false → possible t times s u ≡ false
+  unfolding possible
+  not-completed e f = rw (e, f)
+
+  pub both-possible : workPossible t times (numberAt (s .work)) (s .time) u ≡ true
+      → completionPossible t times (numberAt (s .work)) (numberAt (s .completions)) (s .time) u ≡ true → possible t times s u ≡ true
+  unfolding possible
+  both-possible e f = rw (e, f)
+
 pub state-late : (t : Table) (times : List ℕ) (s : State) → lastTime < s .time → stateCheck t times s ≡ Refused ImpossibleState
 unfolding stateCheck
 state-late t times s l = rw (lt-leb (s .time) lastTime l)
 
 module _ (columns : List (List ℕ)) {t : Table} {n : ℕ} (h : Alike (seen columns) t n) (whole : t .count ≡ n) (times : List ℕ) (s : State) where
   possible-alike : (u : ℕ) → u < n → possible (seen columns) times s u ≡ possible t times s u
-  unfolding possible
+  unfolding possible workPossible completionPossible
   possible-alike u l = rw (predecessor-alike h times (numberAt (s .work)) u l, h .release u l)
 
   all-possible : everyBelow n (possible (seen columns) times s) ≡ everyBelow (t .count) (possible t times s)
@@ -128,11 +143,14 @@ module _ (t : Table) (times : List ℕ) (s : State) (passed : stateCheck t times
   pub passed-early : s .time ≤ lastTime
   passed-early = leb-true _ _ (and-left (leb (s .time) lastTime) (everyBelow (t .count) (possible t times s)) both-passed)
 
+  passed-possible : (u : ℕ) → u < t .count → possible t times s u ≡ true
+  passed-possible u l = every-at (possible t times s) (t .count) u l (and-right (leb (s .time) lastTime) (everyBelow (t .count) (possible t times s)) both-passed)
+
   pub passed-within : (u : ℕ) → u < t .count → getD (s .work) u 0 ≤ getD times u 0
-  unfolding possible
+  unfolding possible workPossible
   passed-within u l =
-      leb-true _ _ (and-left (leb (getD (s .work) u 0) (getD times u 0)) _
-      (every-at (possible t times s) (t .count) u l (and-right (leb (s .time) lastTime) (everyBelow (t .count) (possible t times s)) both-passed)))
+      let both = and-parts (passed-possible u l) in
+      leb-true _ _ (and-parts (both .0) .0)
 
 -- ---- a tick on columns that were made from a set
 module _ (set : JobSet) (times : List ℕ) (passed : machineCheck (jobsOf set) times ≡ Passed) where
@@ -164,7 +182,7 @@ module _ (set : JobSet) (columns : List (List ℕ)) (times : List ℕ) (p : Prep
       pub advance-work : getD (s .work) (best .at) 0 ≤ getD times (best .at) 0 → getD (s .work) (best .at) 0 < getD times (best .at) 0
       advance-work l = let ne = complete-ne times (numberAt (s .work)) (best .at) (pick-open (tableOf (jobsOf set)) times s (best .at) advance-found) in omega arith
 
-      pub advance-ran : tickOf (jobsOf set) times s ≡ record { ticked = Ran (getD (set .jobs) (best .at) noJob .chain) (getD (set .jobs) (best .at) noJob .job); state = moved (runs (best .at)) s }
+      pub advance-ran : tickOf (jobsOf set) times s ≡ record { ticked = Ran (getD (set .jobs) (best .at) noJob .chain) (getD (set .jobs) (best .at) noJob .job); state = moved times (runs (best .at)) s }
       advance-ran = rw (← job-at set (best .at) advance-inside) (tick-ran (jobsOf set) times s (best .at) advance-found)
 
   pub advance-all : (s : State) (b : Bool) → allComplete times (s .work) (set .count) ≡ b → allComplete times (s .work) (length (jobsOf set)) ≡ b

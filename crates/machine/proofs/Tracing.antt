@@ -30,7 +30,8 @@ use Rattle.machine.specs.declared.trace.Traced.the-variants.{Entries, Re
 use Rattle.machine.specs.Ticks.{lastTime, allComplete, machineCheck}
 use Rattle.machine.specs.Runs.{after, entry, noted, spans, row, rows, traceCheck, traced, traceOf, tracedIn}
 use Rattle.machine.proofs.Spans.{goesOn, extended, on-at, spans-within-twice}
-use Rattle.machine.proofs.Running.{at-limit, lastRelease, few-jobs, released-by, entry-settled, Reached, reached-settled, reached-limit}
+use Rattle.machine.proofs.Completions.{entry-settled}
+use Rattle.machine.proofs.Running.{at-limit, lastRelease, few-jobs, released-by, Reached, reached-settled, reached-limit}
 
 -- ---- four numbers stored one after the other
 stored-at : {A : Type 0} (w x y z : A) (b : List A) (k : ℕ) → suc (suc (suc k)) < length b
@@ -227,7 +228,7 @@ module _ (js : List Job) (times before : List ℕ) where
           }
 
     -- the end
-    module _ {work : List ℕ} {left : ℕ} (r : Reached js times work left time) (none : left ≤ 0) where
+    module _ {work completed : List ℕ} {left : ℕ} (r : Reached js times work completed left time) (none : left ≤ 0) where
       whole : traced js times ≡ spans t times time
       whole = at-limit (spans t times) time (spans-settled t times time (reached-settled js times passed r none)) (reached-limit js times passed r none)
 

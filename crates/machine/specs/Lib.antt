@@ -1,3 +1,4 @@
+pub mod Order
 pub mod Ticks
 pub mod Runs
 pub mod Claims

@@ -1,12 +1,13 @@
-// The pick: of the ready jobs, the one of highest priority and, among equals, of the lowest chain number.
-ghost use Rattle.laws.specs.Words.{_≡_, _<_, _≤_, cond, length};
+// The pick: of the ready jobs, the one that goes before every other.
+ghost use Rattle.laws.specs.Words.{_≡_, _<_, _≤_, cond, length, numberAt};
 ghost use Rattle.jobs.specs.Limits.{maxJobs};
+ghost use Rattle.theory.specs.Runs.{ready};
 ghost use Rattle.theory.proofs.Columns.{seen};
-ghost use Rattle.machine.specs.{Ticks.readyIn, Ticks.outranks, Ticks.better, Ticks.bestUpTo};
-use crate::columns::CHAIN;
+ghost use Rattle.machine.specs.{declared.state.State.State, Order.rankOf, Ticks.better, Ticks.bestUpTo};
 use crate::columns::Columns;
-use crate::columns::URGENCY;
-use crate::columns::figure;
+use crate::rank::Rank;
+use crate::rank::is_outranking;
+use crate::rank::rank_of;
 use crate::ready::is_ready;
 use jobs::set::JobSet;
 
@@ -14,37 +15,22 @@ use jobs::set::JobSet;
 pub struct Best {
     pub found: bool,
     pub at: usize,
-    pub urgency: u64,
-    pub chain: u64,
-}
-
-// Whether a job of this urgency and chain goes before the best so far.
-fn is_outranking(urgency: u64, chain: u64, best: Best) -> bool
-    ensures { λ r. ⌜ r ≡ outranks urgency chain (best .urgency) (best .chain) ⌝ }
-{
-    if best.urgency < urgency {
-        return true;
-    }
-    if urgency == best.urgency {
-        return chain < best.chain;
-    }
-    false
+    pub rank: Rank,
 }
 
 // A ready job takes the place of the best so far where it goes before it.
-pub fn better_of(best: Best, at: usize, urgency: u64, chain: u64) -> Best
-    ensures { λ r. ⌜ r ≡ better best at urgency chain ⌝ }
+pub fn better_of(best: Best, at: usize, rank: Rank) -> Best
+    ensures { λ r. ⌜ r ≡ better best at rank ⌝ }
 {
     if best.found {
-        if !is_outranking(urgency, chain, best) {
+        if !is_outranking(rank, best.rank) {
             return best;
         }
     }
     Best {
         found: true,
         at,
-        urgency,
-        chain,
+        rank,
     }
 }
 
@@ -55,56 +41,50 @@ fn consider<'a, 'b>(
     columns: &'a Columns,
     times: &'a [u64],
     work: &'b [u64; JobSet::MAX_JOBS],
+    completions: &'b [u64; JobSet::MAX_JOBS],
     time: u64,
 ) -> Best
     requires { ⌜ (at < maxJobs) × (at < length (now times)) ⌝ }
-    ensures { λ r. let t = seen (now (columns .entry)) in ⌜ r ≡ cond (readyIn t (now (times .entry)) (record { time = time; work = now (work .entry) }) at) (better best at (t .urgency at) (t .chain at)) best ⌝ }
+    ensures { λ r.
+        let t = seen (now (columns .entry)) in
+        let is-ready = ready t (t .earliest) (now (times .entry)) (numberAt (now (work .entry))) time at in
+        ⌜ r ≡ cond is-ready (better best at (rankOf t (numberAt (now (completions .entry))) at)) best ⌝ }
 {
     if !is_ready(at, columns, times, work, time) {
         return best;
     }
-    better_of(
-        best,
-        at,
-        figure(columns, URGENCY, at),
-        figure(columns, CHAIN, at),
-    )
+    better_of(best, at, rank_of(at, columns, completions))
 }
 
-// The best of the first count jobs; its parts are carried one by one, which is much faster than to copy the whole.
+// The best of the first count jobs; its parts are carried, which is much faster than to copy the whole.
 pub(crate) fn best_of<'a, 'b>(
     count: usize,
     columns: &'a Columns,
     times: &'a [u64],
     work: &'b [u64; JobSet::MAX_JOBS],
+    completions: &'b [u64; JobSet::MAX_JOBS],
     time: u64,
 ) -> Best
     requires { ⌜ (count ≤ maxJobs) × (count ≤ length (now times)) ⌝ }
-    ensures { λ r. ⌜ r ≡ bestUpTo (seen (now (columns .entry))) (now (times .entry)) (record { time = time; work = now (work .entry) }) count ⌝ }
+    ensures { λ r.
+        let s : State = record { time = time; work = now (work .entry); completions = now (completions .entry) } in
+        ⌜ r ≡ bestUpTo (seen (now (columns .entry))) (now (times .entry)) s count ⌝ }
 {
     let mut found = false;
     let mut at: usize = 0;
-    let mut best_urgency: u64 = 0;
-    let mut best_chain: u64 = 0;
+    let mut rank = Rank {
+        urgency: 0,
+        since: 0,
+        chain: 0,
+    };
     let mut n: usize = 0;
     while n < count {
-        let best = Best {
-            found,
-            at,
-            urgency: best_urgency,
-            chain: best_chain,
-        };
-        let next = consider(best, n, columns, times, work, time);
+        let best = Best { found, at, rank };
+        let next = consider(best, n, columns, times, work, completions, time);
         found = next.found;
         at = next.at;
-        best_urgency = next.urgency;
-        best_chain = next.chain;
+        rank = next.rank;
         n += 1;
     }
-    Best {
-        found,
-        at,
-        urgency: best_urgency,
-        chain: best_chain,
-    }
+    Best { found, at, rank }
 }

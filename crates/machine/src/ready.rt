@@ -1,9 +1,9 @@
 // Which jobs are ready, from columns of their figures.
 ghost use Rattle.laws.specs.Words.{_≡_, _<_, _≤_, length, numberAt};
 ghost use Rattle.jobs.specs.Limits.{maxJobs};
-ghost use Rattle.theory.specs.Runs.{complete, predecessorComplete};
+ghost use Rattle.theory.specs.Runs.{complete, predecessorComplete, ready};
 ghost use Rattle.theory.proofs.Columns.{seen};
-ghost use Rattle.machine.specs.Ticks.{allComplete, readyIn};
+ghost use Rattle.machine.specs.Ticks.{allComplete};
 use crate::columns::CHAIN;
 use crate::columns::Columns;
 use crate::columns::RELEASE;
@@ -47,7 +47,7 @@ pub(crate) fn is_ready<'a, 'b>(
     time: u64,
 ) -> bool
     requires { ⌜ (at < maxJobs) × (at < length (now times)) ⌝ }
-    ensures { λ r. ⌜ r ≡ readyIn (seen (now (columns .entry))) (now (times .entry)) (record { time = time; work = now (work .entry) }) at ⌝ }
+    ensures { λ r. let t = seen (now (columns .entry)) in ⌜ r ≡ ready t (t .earliest) (now (times .entry)) (numberAt (now (work .entry))) time at ⌝ }
 {
     if time < figure(columns, RELEASE, at) {
         return false;

@@ -7,6 +7,7 @@ use crate::idle::next_time;
 use crate::pick::best_of;
 use crate::times::check_times;
 use crate::times::total;
+use crate::work::work_on;
 use jobs::refusal::Check;
 use jobs::set::JobSet;
 
@@ -28,11 +29,10 @@ fn run_through(set: JobSet, times: &[u64]) -> Completed
     let mut left = total(times);
     let mut time: u64 = 0;
     while 0 < left {
-        let best = best_of(set.count, &columns, times, &work, time);
+        let best = best_of(set.count, &columns, times, &work, &completions, time);
         if best.found {
             let at = best.at;
-            work[at] = work[at] + 1;
-            completions[at] = time + 1;
+            work_on(at, times, time, &mut work, &mut completions);
             left -= 1;
         }
         time = next_time(best.found, set.count, &columns, time);

@@ -1,18 +1,17 @@
 // One tick on a state, by value, with its checks.
-ghost use Rattle.laws.specs.Words.{_≡_, _<_, _≤_, length, everyBelow};
-ghost use Rattle.jobs.specs.{Limits.maxJobs, Jobs.jobsOf};
+ghost use Rattle.laws.specs.Words.{_≡_};
+ghost use Rattle.jobs.specs.Jobs.{jobsOf};
 ghost use Rattle.theory.specs.Table.{tableOf};
 ghost use Rattle.theory.proofs.Columns.{seen, Alike};
-ghost use Rattle.machine.specs.{Ticks.machineCheck, Ticks.possible, Ticks.stateCheck, Ticks.stepOf, Ticks.tickOf};
+ghost use Rattle.machine.specs.Ticks.{machineCheck, stateCheck, stepOf, tickOf};
+use crate::check::check_state;
 use crate::columns::Columns;
-use crate::columns::RELEASE;
 use crate::columns::columns_of;
-use crate::columns::figure;
 use crate::pick::best_of;
 use crate::ready::are_complete;
-use crate::ready::is_predecessor_complete;
 use crate::state::State;
 use crate::times::check_times;
+use crate::work::work_on;
 use jobs::refusal::Check;
 use jobs::refusal::Refusal;
 use jobs::set::JobSet;
@@ -31,84 +30,28 @@ pub struct Stepped {
     pub state: State,
 }
 
-// Whether the work of one job is possible at this time.
-fn is_possible<'a, 'b>(
-    at: usize,
-    columns: &'a Columns,
-    times: &'a [u64],
-    work: &'b [u64; JobSet::MAX_JOBS],
-    time: u64,
-) -> bool
-    requires { ⌜ (at < maxJobs) × (at < length (now times)) ⌝ }
-    ensures { λ r. ⌜ r ≡ possible (seen (now (columns .entry))) (now (times .entry)) (record { time = time; work = now (work .entry) }) at ⌝ }
-{
-    if times[at] < work[at] {
-        return false;
-    }
-    if work[at] == 0 {
-        return true;
-    }
-    if !is_predecessor_complete(at, columns, times, work) {
-        return false;
-    }
-    figure(columns, RELEASE, at) < time
-}
-
-// Whether the work of each of the first count jobs is possible.
-fn are_possible<'a, 'b>(
-    count: usize,
-    columns: &'a Columns,
-    times: &'a [u64],
-    work: &'b [u64; JobSet::MAX_JOBS],
-    time: u64,
-) -> bool
-    requires { ⌜ (count ≤ maxJobs) × (count ≤ length (now times)) ⌝ }
-    ensures { λ r. ⌜ r ≡ everyBelow count (possible (seen (now (columns .entry))) (now (times .entry)) (record { time = time; work = now (work .entry) })) ⌝ }
-{
-    let mut n: usize = 0;
-    while n < count {
-        if !is_possible(n, columns, times, work, time) {
-            return false;
-        }
-        n += 1;
-    }
-    true
-}
-
-// Refusal 11: a state that cannot be.
-fn check_state<'a>(state: State, set: JobSet, columns: &'a Columns, times: &'a [u64]) -> Check
-    requires { ⌜ (machineCheck (jobsOf set) (now times) ≡ Check.Passed) × Alike (seen (now columns)) (tableOf (jobsOf set)) (set .count) ⌝ }
-    ensures { λ r. ⌜ r ≡ stateCheck (tableOf (jobsOf set)) (now (times .entry)) state ⌝ }
-{
-    let work = state.work;
-    if State::LAST_TIME < state.time {
-        return Check::Refused(Refusal::ImpossibleState);
-    }
-    if !are_possible(set.count, columns, times, &work, state.time) {
-        return Check::Refused(Refusal::ImpossibleState);
-    }
-    Check::Passed
-}
-
 // The tick itself, on a state that has passed.
 fn advance<'a>(state: State, set: JobSet, columns: &'a Columns, times: &'a [u64]) -> Stepped
     requires { ⌜ ((machineCheck (jobsOf set) (now times) ≡ Check.Passed) × Alike (seen (now columns)) (tableOf (jobsOf set)) (set .count)) × (stateCheck (tableOf (jobsOf set)) (now times) state ≡ Check.Passed) ⌝ }
     ensures { λ r. ⌜ r ≡ tickOf (jobsOf set) (now (times .entry)) state ⌝ }
 {
-    let work = state.work;
+    let mut work = state.work;
+    let mut completions = state.completions;
     let time = state.time;
-    let best = best_of(set.count, columns, times, &work, time);
+    let best = best_of(set.count, columns, times, &work, &completions, time);
     if best.found {
         let at = best.at;
-        let mut next = state;
-        next.time = state.time + 1;
-        next.work[at] = work[at] + 1;
+        work_on(at, times, time, &mut work, &mut completions);
         return Stepped {
             ticked: Ticked::Ran {
                 chain: set.jobs[at].chain,
                 job: set.jobs[at].job,
             },
-            state: next,
+            state: State {
+                time: time + 1,
+                work,
+                completions,
+            },
         };
     }
     if are_complete(set.count, times, &work) {
@@ -117,11 +60,13 @@ fn advance<'a>(state: State, set: JobSet, columns: &'a Columns, times: &'a [u64]
             state,
         };
     }
-    let mut next = state;
-    next.time = state.time + 1;
     Stepped {
         ticked: Ticked::Idle,
-        state: next,
+        state: State {
+            time: time + 1,
+            work,
+            completions,
+        },
     }
 }
 

@@ -7,6 +7,7 @@ use crate::idle::next_time;
 use crate::pick::best_of;
 use crate::times::check_times;
 use crate::times::total;
+use crate::work::work_on;
 use jobs::job::Job;
 use jobs::refusal::Check;
 use jobs::refusal::Refusal;
@@ -80,6 +81,7 @@ fn write_entries(set: JobSet, times: &[u64], out: &mut [u64]) -> usize
 {
     let columns = columns_of(set);
     let mut work = [0u64; JobSet::MAX_JOBS];
+    let mut completions = [0u64; JobSet::MAX_JOBS];
     let mut left = total(times);
     let mut last = Span {
         at: 0,
@@ -89,10 +91,10 @@ fn write_entries(set: JobSet, times: &[u64], out: &mut [u64]) -> usize
     let mut entries: usize = 0;
     let mut time: u64 = 0;
     while 0 < left {
-        let best = best_of(set.count, &columns, times, &work, time);
+        let best = best_of(set.count, &columns, times, &work, &completions, time);
         if best.found {
             let at = best.at;
-            work[at] = work[at] + 1;
+            work_on(at, times, time, &mut work, &mut completions);
             left -= 1;
             let put = put_at(last, entries, at, time);
             write_entry(set.jobs[at], put, out);

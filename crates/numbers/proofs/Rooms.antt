@@ -1,13 +1,13 @@
 -- Room in lent memory: number 9, and what is written of numbers, jobs and states where there is room. Assumes nothing.
-use Prim.Native.Nat.{ℕ, _*_, _≤_, _<_}
+use Prim.Native.Nat.{ℕ, _+_, _*_, _≤_, _<_}
 use mathlib.Core.Path.{_≡_, refl, sym, _∙_}
 use mathlib.Core.List.{List, [], _∷_, append-nil}
 use native.Mathlib.Omega.{arith}
 use native.Mathlib.Nat.{add-zero}
-use lib.ListN.{length, drop, drop-of-length-le, take-append-drop}
+use lib.ListN.{length, drop, length-append, drop-of-length-le, take-append-drop}
 use borrow.Author.Tests.{le-leb, lt-leb}
 use Rattle.laws.specs.Words.{patched, written}
-use Rattle.laws.proofs.Buffers.{written-patched, written-short, patched-more}
+use Rattle.laws.proofs.Buffers.{wrote-first, wrote-more, written-patched, written-short}
 use Rattle.jobs.specs.declared.job.Job.{Job}
 use Rattle.jobs.specs.declared.refusal.Check.the-variants.{Passed, Refused}
 use Rattle.jobs.specs.declared.refusal.Refusal.the-variants.{ShortBuffer, TooManyRecords}
@@ -50,14 +50,18 @@ module _ (js : List Job) (from : ℕ) (memory : List ℕ) where
   unfolding numbersOf patched
   jobs-none h = rw (drop-of-length-le js h, add-zero, append-nil) (sym (take-append-drop (jobSize * from) memory))
 
--- a state that does not fit, and one written time first
-module _ (s : State) (memory : List ℕ) (full : length (s .work) ≡ maxJobs) where
-  pub state-short : length memory < stateSize → (Refused ShortBuffer ≡ roomCheck stateSize memory) × (memory ≡ written (stateNumbers s) memory)
-  state-short h = (room-short stateSize memory h, sym (written-short (stateNumbers s) memory (omega (arith, full))))
+-- a state that does not fit, and one written part after part
+module _ (s : State) (memory : List ℕ) (full : length (s .work) ≡ maxJobs) (whole : length (s .completions) ≡ maxJobs) where
+  state-length : length (stateNumbers s) ≡ stateSize
+  state-length = omega (arith, length-append (s .work) (s .completions), full, whole)
 
-  pub state-fits : (between after : List ℕ) (next : ℕ) → stateSize ≤ length memory → (next ≡ 1) × (between ≡ patched memory 0 (s .time ∷ [])) → after ≡ patched between next (s .work)
+  pub state-short : length memory < stateSize → (Refused ShortBuffer ≡ roomCheck stateSize memory) × (memory ≡ written (stateNumbers s) memory)
+  state-short h = (room-short stateSize memory h, sym (written-short (stateNumbers s) memory (omega (arith, state-length))))
+
+  pub state-fits : {timed worked after : List ℕ} → stateSize ≤ length memory → timed ≡ patched memory 0 (s .time ∷ []) → worked ≡ patched timed 1 (s .work) → after ≡ patched worked (1 + maxJobs) (s .completions)
       → (Passed ≡ roomCheck stateSize memory) × (after ≡ written (stateNumbers s) memory)
-  state-fits between after next h first e = (
-    room-passes stateSize memory h,
-    rw (first .0, first .1) at e ∙ patched-more memory 0 (s .time ∷ []) (s .work) (omega arith) ∙ sym (written-patched (stateNumbers s) memory (omega (arith, full))),
-  )
+  state-fits h e f g =
+      let next : 1 + maxJobs ≡ 1 + length (s .work) = omega (arith, full) in
+      let first = wrote-first (s .time ∷ []) (omega arith) (refl, e) in
+      let all = wrote-more (s .completions) (wrote-more (s .work) first (next, f)) (refl, g) in
+      (room-passes stateSize memory h, all .list ∙ sym (written-patched (stateNumbers s) memory (omega (arith, state-length))))

@@ -12,6 +12,6 @@ pub record Claims : Type 0 where
   -- So are the first jobs of memory that holds more behind them.
   pub front-back : (js : List Job) (rest : List ℕ) → length js ≤ maxJobs → setIn (numbersOf js ++ rest) (length js) ≡ setOf js
   -- A state that is written and read back is the same.
-  pub state-back : (s : State) → length (s .work) ≡ maxJobs → stateIn (stateNumbers s) ≡ s
+  pub state-back : (s : State) → length (s .work) ≡ maxJobs → length (s .completions) ≡ maxJobs → stateIn (stateNumbers s) ≡ s
   -- A state that is read and written back leaves memory as it was.
   pub memory-back : (memory : List ℕ) → stateSize ≤ length memory → written (stateNumbers (stateIn memory)) memory ≡ memory

@@ -1,7 +1,8 @@
 -- Sets and states as numbers in lent memory. Assumes nothing.
 --   jobNumbers, numbersOf     the numbers of a job, and of jobs one after another
 --   jobIn, setIn, heldSet     the job at a place, the first jobs and all jobs in numbers
---   stateNumbers, stateIn     a state as numbers, and the state that numbers start with
+--   stateNumbers              the numbers of a state
+--   columnIn, stateIn         a number for each place of a set, and the state that numbers start with
 --   roomCheck, putCheck       number 9 where memory is too short
 use Rattle.laws.specs.Words.{ℕ, _+_, _-_, _*_, _/_, min, List, [], _∷_, _++_, leb, length, drop, numberAt, tabulate, padded, patched}
 use Rattle.jobs.specs.declared.{job.Job.Job, set.JobSet.JobSet, refusal.Refusal.Refusal, refusal.Check.Check}
@@ -41,15 +42,19 @@ heldSet numbers = setIn numbers (jobsHeld numbers)
 
 -- How many numbers a state takes.
 abbrev pub stateSize : ℕ
-stateSize = 1 + maxJobs
+stateSize = 1 + 2 * maxJobs
 
--- The numbers of a state: the time, then the work of each place.
+-- The numbers of a state: the time, then the work of each place, then the completion of each place.
 abbrev pub stateNumbers : State → List ℕ
-stateNumbers s = s .time ∷ s .work
+stateNumbers s = s .time ∷ (s .work ++ s .completions)
+
+-- One number for each place of a set, from a place of the numbers on.
+unfoldable pub columnIn : List ℕ → ℕ → List ℕ
+columnIn numbers from = tabulate 0 maxJobs (λ i. numberAt numbers (from + i))
 
 -- The state that numbers start with.
 unfoldable pub stateIn : List ℕ → State
-stateIn numbers = record { time = numberAt numbers 0; work = tabulate 0 maxJobs (λ i. numberAt numbers (i + 1)) }
+stateIn numbers = record { time = numberAt numbers 0; work = columnIn numbers 1; completions = columnIn numbers (1 + maxJobs) }
 
 -- Number 9, where memory has fewer numbers than are to be written.
 unfoldable pub roomCheck : ℕ → List ℕ → Check

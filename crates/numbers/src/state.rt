@@ -1,6 +1,7 @@
-// A machine's state as numbers: the time, then the work of each place.
-ghost use Rattle.laws.specs.Words.{_≡_, written};
-ghost use Rattle.numbers.specs.Numbers.{stateSize, stateNumbers, stateIn, roomCheck};
+// A machine's state as numbers: the time, then the work of each place, then the completion of each place.
+ghost use Rattle.laws.specs.Words.{_≡_, _≤_, written};
+ghost use Rattle.jobs.specs.Limits.{maxJobs};
+ghost use Rattle.numbers.specs.Numbers.{stateSize, stateNumbers, columnIn, stateIn, roomCheck};
 use crate::number::number_at;
 use crate::put::put_at;
 use jobs::refusal::Check;
@@ -8,22 +9,37 @@ use jobs::refusal::Refusal;
 use jobs::set::JobSet;
 use machine::state::State;
 
+// Where the work starts, after the time.
+const WORK: usize = 1;
+
+// Where the completions start, after the work.
+const COMPLETIONS: usize = WORK + JobSet::MAX_JOBS;
+
 // How many numbers a state takes.
-pub const STATE_SIZE: usize = 1 + JobSet::MAX_JOBS;
+pub const STATE_SIZE: usize = COMPLETIONS + JobSet::MAX_JOBS;
+
+// One number for each place of a set, from a place of the numbers on.
+fn column_in(numbers: &[u64], from: usize) -> [u64; JobSet::MAX_JOBS]
+    requires { ⌜ from ≤ stateSize ⌝ }
+    ensures { λ r. ⌜ r ≡ columnIn (now (numbers .entry)) from ⌝ }
+{
+    let mut column = [0u64; JobSet::MAX_JOBS];
+    let mut n: usize = 0;
+    while n < JobSet::MAX_JOBS {
+        column[n] = number_at(numbers, from + n);
+        n += 1;
+    }
+    column
+}
 
 // The state that the numbers start with.
 pub fn state_in(numbers: &[u64]) -> State
     ensures { λ r. ⌜ r ≡ stateIn (now (numbers .entry)) ⌝ }
 {
-    let mut work = [0u64; JobSet::MAX_JOBS];
-    let mut n: usize = 0;
-    while n < JobSet::MAX_JOBS {
-        work[n] = number_at(numbers, n + 1);
-        n += 1;
-    }
     State {
         time: number_at(numbers, 0),
-        work,
+        work: column_in(numbers, WORK),
+        completions: column_in(numbers, COMPLETIONS),
     }
 }
 
@@ -33,10 +49,12 @@ pub fn put_state(state: State, out: &mut [u64]) -> Check
 {
     let time = [state.time];
     let work = state.work;
+    let completions = state.completions;
     if out.len() < STATE_SIZE {
         return Check::Refused(Refusal::ShortBuffer);
     }
-    let next = put_at(&time, out, 0);
-    put_at(&work, out, next);
+    put_at(&time, out, 0);
+    put_at(&work, out, WORK);
+    put_at(&completions, out, COMPLETIONS);
     Check::Passed
 }

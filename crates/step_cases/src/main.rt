@@ -1,5 +1,5 @@
 // Prints two lines for each case named as an argument: its name, and one tick on what is kept under it, by value and in lent memory.
-//   step/NAME    the table; the next argument, with/NAME, has the running times and the state
+//   step/NAME    the table; the next argument, with/NAME, has the running times, then time and work, then completions, which may be left out
 // A line tells the answer and the state after it, the second line the most urgent ready job of the lent records too.
 ghost use Prim.Native.Nat.{_+_, _<_, _^_};
 

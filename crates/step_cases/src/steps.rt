@@ -2,8 +2,8 @@
 ghost use mathlib.Core.Path.{_≡_};
 ghost use lib.ListN.{length};
 ghost use Rattle.jobs.specs.Limits.{maxJobs};
-use crate::lines::Numbers;
-use crate::lines::numbers_of;
+use crate::lines::Lines;
+use crate::lines::lines_of;
 use crate::print::print;
 use crate::print::print_column;
 use crate::print::print_number;
@@ -18,27 +18,23 @@ use machine::step::Ticked;
 use machine::step::step;
 use numbers::state::state_in;
 
-// The first numbers, of which as many are lent as the first line has; lending the array needs its length.
-fn times_of(numbers: Numbers) -> [u64; JobSet::MAX_JOBS]
+// The first line, of which as many are lent as it has; lending the array needs its length.
+fn times_of(lines: Lines) -> [u64; JobSet::MAX_JOBS]
     ensures { λ r. ⌜ maxJobs ≡ length r ⌝ }
 {
     let mut times = [0u64; JobSet::MAX_JOBS];
     let mut i: usize = 0;
     while i < JobSet::MAX_JOBS {
-        times[i] = numbers.values[i];
+        times[i] = lines.values[i];
         i += 1;
     }
     times
 }
 
-// The second line of the numbers: the time, then the work of each job from the first.
-fn state_of(numbers: Numbers) -> State {
-    let values = numbers.values;
-    let first = numbers.first;
-    if first <= JobSet::MAX_JOBS {
-        return state_in(&values[first..]);
-    }
-    State::start()
+// The second and the third line, which stand as a state's numbers do.
+fn state_of(lines: Lines) -> State {
+    let values = lines.values;
+    state_in(&values[Lines::LENGTH..])
 }
 
 // A job by its chain and number.
@@ -60,23 +56,32 @@ fn print_ticked(ticked: Ticked) {
     }
 }
 
-fn print_work(state: State, place: usize) {
+fn print_value(values: [u64; JobSet::MAX_JOBS], place: usize) {
     if place < JobSet::MAX_JOBS {
         print(b" ");
-        print_number(state.work[place]);
+        print_number(values[place]);
     }
 }
 
-// The time, and the work of the first few jobs.
+// The values of the first few jobs.
+fn print_values(values: [u64; JobSet::MAX_JOBS], shown: usize) {
+    let mut place: usize = 0;
+    while place < shown {
+        print_value(values, place);
+        place += 1;
+    }
+}
+
+// The time, and the work and the completions of the first few jobs.
 fn print_state(state: State, shown: usize) {
     print(b", time ");
     print_number(state.time);
+    let work = state.work;
     print(b", work");
-    let mut place: usize = 0;
-    while place < shown {
-        print_work(state, place);
-        place += 1;
-    }
+    print_values(work, shown);
+    let completions = state.completions;
+    print(b", completions");
+    print_values(completions, shown);
 }
 
 // The answer of a tick, and the state after it.
@@ -127,17 +132,17 @@ fn print_ticks(name: &[u8], set: JobSet, times: &[u64], state: State, shown: usi
     print_lent(set, times, state, shown);
 }
 
-// The table of one file; running times, time and work from another. As many jobs' work is printed as was handed.
-pub(crate) fn print_step(name: &[u8], numbers_name: &[u8]) {
+// The table of one file; running times and the state from another. As many jobs of the state are printed as the second line has work of.
+pub(crate) fn print_step(name: &[u8], lines_name: &[u8]) {
     let set = set_of(name);
-    let numbers = numbers_of(numbers_name);
-    let count = numbers.count;
-    let first = numbers.first;
-    let state = state_of(numbers);
-    let times = times_of(numbers);
-    if first < count {
-        if first <= JobSet::MAX_JOBS {
-            print_ticks(name, set, &times[..first], state, count - first - 1);
+    let lines = lines_of(lines_name);
+    let count = lines.counts[0];
+    let handed = lines.counts[1];
+    let state = state_of(lines);
+    let times = times_of(lines);
+    if 0 < handed {
+        if count <= JobSet::MAX_JOBS {
+            print_ticks(name, set, &times[..count], state, handed - 1);
         }
     }
 }

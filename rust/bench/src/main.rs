@@ -2,6 +2,7 @@
 
 use cudlomer::{Set, State, Ticked};
 use reference::{machine, table, text, Job};
+use std::cmp::Reverse;
 use std::hint::black_box;
 use std::time::Instant;
 
@@ -133,7 +134,7 @@ fn call_times(jobs: u64, chains: u64) -> Vec<f64> {
     });
     let most = vec![MOST; busy.len()];
     let plain = time(|| {
-        let mut state = machine::State { time: 0, work: vec![0; busy.len()] };
+        let mut state = machine::State::start(busy.len());
         loop {
             machine::check(black_box(&busy), &most).unwrap();
             if black_box(machine::tick(&busy, &most, &mut state).unwrap()) == machine::Ticked::Finished {
@@ -144,6 +145,52 @@ fn call_times(jobs: u64, chains: u64) -> Vec<f64> {
     // the tick that answers "finished" counts
     let ticks = (jobs * MOST + 1) as f64;
     vec![called / ticks, plain / ticks]
+}
+
+/// Jobs of 1,000 ticks, all released at 0 and each with the priority given for its place.
+fn ready_load(jobs: u64, chains: u64, priority: fn(u64) -> u64) -> Vec<Job> {
+    (0..).zip(load(jobs, chains)).map(|(i, j)| Job { release: 0, priority: priority(i), least: 1, most: 1_000, ..j }).collect()
+}
+
+/// A state in the middle of a run: the first half of each chain is complete, higher chains before lower ones, and the next job of each is ready.
+fn middle(jobs: &[Job], per: u64) -> State {
+    let mut complete: Vec<usize> = (0..jobs.len()).filter(|i| 2 * jobs[*i].job <= per).collect();
+    complete.sort_by_key(|i| (jobs[*i].job, Reverse(jobs[*i].chain)));
+    let mut state = State::START;
+    for i in complete {
+        state.time += jobs[i].most;
+        state.work[i] = jobs[i].most;
+        state.completions[i] = state.time;
+    }
+    state
+}
+
+/// What is timed of a tick by a call in such a state, where all jobs are equals and where no two are: that, and one of the plain reference.
+fn middle_times(jobs: u64, chains: u64) -> Vec<f64> {
+    const TICKS: u64 = 500;
+    let priorities: [fn(u64) -> u64; 2] = [|_| 1, |place| place];
+    let measure = |priority| {
+        let ready = ready_load(jobs, chains, priority);
+        let set = Set::read(&table_text(&ready)).unwrap();
+        let times = set.times(|j| j.most);
+        let from = middle(&ready, jobs / chains);
+        let called = time(|| {
+            let mut state = from;
+            for _ in 0..TICKS {
+                black_box(set.tick(&times, &mut state).unwrap());
+            }
+        });
+        let most: Vec<u64> = times.iter().collect();
+        let plain = time(|| {
+            let mut state = machine::State { time: from.time, work: from.work.to_vec(), completions: from.completions.to_vec() };
+            for _ in 0..TICKS {
+                machine::check(black_box(&ready), &most).unwrap();
+                black_box(machine::tick(&ready, &most, &mut state).unwrap());
+            }
+        });
+        [called / TICKS as f64, plain / TICKS as f64]
+    };
+    priorities.map(measure).concat()
 }
 
 /// The least of each time over some passes, since a machine that others use is slow for seconds on end.
@@ -179,5 +226,11 @@ fn main() {
     println!("  ns a tick by a call, which checks the set, the times and the state: the part, the plain reference, ratio");
     for ((jobs, chains), times) in loads.iter().zip(&least(call_times, &loads)) {
         println!("{jobs:2} jobs, {chains} chains: {:6.1} {:6.1} {:5.2}", times[0], times[1], times[0] / times[1]);
+    }
+    println!("  ns a tick by such a call in the middle of a run, with a job of each chain ready: all equals, ratio | no two equals, ratio");
+    let loads = [(6, 2), (64, 16)];
+    for ((jobs, chains), times) in loads.iter().zip(&least(middle_times, &loads)) {
+        let [equals, plain_equals, different, plain_different] = times[..] else { unreachable!() };
+        println!("{jobs:2} jobs, {chains} chains: {equals:6.1} {:5.2} | {different:6.1} {:5.2}", equals / plain_equals, different / plain_different);
     }
 }

@@ -1,4 +1,4 @@
-//! Sets, running times and states with something wrong, which now and then are right all the same.
+//! Sets and running times with something wrong, which now and then are right all the same.
 
 use crate::draw::Draw;
 use reference::Job;
@@ -6,11 +6,9 @@ use reference::Job;
 /// The greatest value of each column, where for the job it is the greatest that there can be.
 const LIMITS: [u64; 7] = [16, 64, 1_000_000_000, 255, 1_000_000, 1_000_000, 4_000_000_000];
 
-const LAST_TIME: u64 = 2_000_000_000;
-
 impl Draw {
     /// A value in the place of another: at or beyond a limit, one more or less, or huge.
-    fn wrong(&mut self, value: u64, limit: u64) -> u64 {
+    pub fn wrong(&mut self, value: u64, limit: u64) -> u64 {
         match self.range(0, 7) {
             0 => limit,
             1 => limit + 1,
@@ -87,25 +85,6 @@ impl Draw {
             2 => out[at] = self.wrong(out[at], jobs[at].most),
             3 => out.truncate(at),
             _ => out.push(1),
-        }
-        out
-    }
-
-    /// A state with work or a time that cannot be, or that is too short.
-    pub fn damaged_state(&mut self, jobs: &[Job], times: &[u64], state: &[u64]) -> Vec<u64> {
-        let mut out = state.to_vec();
-        let at = self.range(0, jobs.len() as u64 - 1) as usize;
-        match self.range(0, 7) {
-            0 | 1 => out[1 + at] = self.wrong(out[1 + at], times[at]),
-            2 => out[1 + at] = times[at],
-            3 => out[0] = self.wrong(out[0], LAST_TIME),
-            4 => out[0] = jobs[at].release + self.range(0, 1),
-            5 => {
-                out[0] = LAST_TIME + self.range(0, 1);
-                out[1..=times.len()].copy_from_slice(times);
-            }
-            6 => out.truncate(self.range(0, 64) as usize),
-            _ => out.extend(state),
         }
         out
     }

@@ -8,6 +8,8 @@ pub enum Kind {
     Small,
     /// Releases close to each other.
     Dense,
+    /// Two priorities and small figures, so that there are many equals and readiness decides among them.
+    Equal,
     /// One to three chains with many jobs.
     Long,
     /// Many short chains.
@@ -19,12 +21,12 @@ pub enum Kind {
 }
 
 impl Kind {
-    pub const ALL: [Kind; 6] = [Kind::Small, Kind::Dense, Kind::Long, Kind::Wide, Kind::Late, Kind::Extreme];
+    pub const ALL: [Kind; 7] = [Kind::Small, Kind::Dense, Kind::Equal, Kind::Long, Kind::Wide, Kind::Late, Kind::Extreme];
 
     pub fn tables(self) -> usize {
         match self {
             Kind::Small => 1500,
-            Kind::Dense => 150,
+            Kind::Dense | Kind::Equal => 150,
             Kind::Long => 40,
             Kind::Wide | Kind::Late | Kind::Extreme => 60,
         }
@@ -57,7 +59,7 @@ impl Draw {
     }
 
     /// A number at or near the greatest, or anywhere below it.
-    fn extreme(&mut self, low: u64, high: u64) -> u64 {
+    pub fn extreme(&mut self, low: u64, high: u64) -> u64 {
         match self.next() % 4 {
             0 => high,
             1 => low,
@@ -71,6 +73,7 @@ impl Draw {
         let (chains, most) = match kind {
             Kind::Small => (self.range(1, 4), 4),
             Kind::Dense => (self.range(2, 6), 6),
+            Kind::Equal => (self.range(2, 8), 4),
             Kind::Long => (self.range(1, 3), 21),
             Kind::Wide => (self.range(8, 16), 4),
             Kind::Late | Kind::Extreme => (self.range(1, 8), 8),
@@ -85,6 +88,7 @@ impl Draw {
                 let (release, priority, most) = match kind {
                     Kind::Small => (self.range(0, 20), self.range(0, 3), self.range(1, 6)),
                     Kind::Dense => (self.range(0, 60), self.range(0, 5), self.range(1, 12)),
+                    Kind::Equal => (self.range(0, 12), self.range(0, 1), self.range(1, 6)),
                     Kind::Late => (self.extreme(0, 1_000_000_000), self.range(0, 5), self.range(1, 30)),
                     Kind::Long | Kind::Wide => (self.range(0, 400), self.range(0, 9), self.range(1, 30)),
                     Kind::Extreme => (self.extreme(0, 1_000_000_000), self.extreme(0, 255), self.extreme(1, 1_000_000)),

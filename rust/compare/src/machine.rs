@@ -2,32 +2,43 @@
 
 use crate::draw::Draw;
 use crate::is_short;
-use crate::side::{jobs_of, numbers_of, STATE, WANTED};
+use crate::side::{jobs_of, numbers_of, WANTED};
 use crate::tally::Tally;
 use crate::waveform;
-use reference::{set, Job};
+use reference::{machine, set, Job};
 
 /// So many ticks of a run are gone through one by one, which is more than a run of short jobs with releases near each other has.
 const TICKS: usize = 2_500;
 
+/// So many states are drawn, and so many ticks gone through from each.
+const STATES: usize = 4;
+const FEW_TICKS: usize = 12;
+
 pub fn compare(tally: &mut Tally, draw: &mut Draw, jobs: &[Job]) {
     let numbers = numbers_of(jobs);
     let times = draw.times(jobs);
+    let start = draw.start(jobs);
     let damaged_times = draw.damaged_times(jobs, &times);
     let damaged_set = draw.damaged_set(&numbers);
     for (numbers, times) in [(&numbers, &times), (&numbers, &damaged_times), (&damaged_set, &times)] {
         compare_run(tally, numbers, times);
-        compare_tick(tally, numbers, times, &start(jobs));
+        compare_tick(tally, numbers, times, &start);
     }
-    compare_tick(tally, &numbers, &damaged_times, &draw.damaged_state(jobs, &times, &start(jobs)));
-    compare_ticks(tally, draw, jobs, &times);
+    compare_tick(tally, &numbers, &damaged_times, &draw.damaged_state(jobs, &times, &start));
+    compare_ticks(tally, draw, (jobs, &times), (start, TICKS));
+    for _ in 0..STATES {
+        let state = draw.state(jobs, &times);
+        compare_ticks(tally, draw, (jobs, &times), (state, FEW_TICKS));
+    }
+    if is_short(jobs) {
+        tally.run(is_readiness_deciding(jobs, &times));
+    }
 }
 
-/// Time 0 and no work; garbage beyond the jobs.
-fn start(jobs: &[Job]) -> Vec<u64> {
-    let mut state = vec![0; 1 + jobs.len()];
-    state.resize(STATE, u64::MAX);
-    state
+/// Whether the run is not the one in which the lowest chain goes first among equals, as it does where the chain is part of the priority.
+fn is_readiness_deciding(jobs: &[Job], times: &[u64]) -> bool {
+    let by_chain: Vec<Job> = jobs.iter().map(|j| Job { priority: 17 * j.priority + 16 - j.chain, ..*j }).collect();
+    machine::trace(jobs, times) != machine::trace(&by_chain, times)
 }
 
 /// Whole runs, where they are short.
@@ -46,11 +57,10 @@ fn compare_tick(tally: &mut Tally, numbers: &[u64], times: &[u64], state: &[u64]
     tally.lent("set_tick", &(numbers, times, state), state, |side, lent| (side.set_tick)(numbers, times, lent));
 }
 
-/// A run tick by tick, with a damaged state now and then; where a tick is idle, time goes on to a release now and then.
-fn compare_ticks(tally: &mut Tally, draw: &mut Draw, jobs: &[Job], times: &[u64]) {
+/// Ticks from a state on, with a damaged state now and then; where a tick is idle, time goes on to a release now and then.
+fn compare_ticks(tally: &mut Tally, draw: &mut Draw, (jobs, times): (&[Job], &[u64]), (mut state, ticks): (Vec<u64>, usize)) {
     let numbers = numbers_of(jobs);
-    let mut state = start(jobs);
-    for _ in 0..TICKS {
+    for _ in 0..ticks {
         compare_tick(tally, &numbers, times, &state);
         if draw.one_in(4) {
             compare_tick(tally, &numbers, times, &draw.damaged_state(jobs, times, &state));

@@ -6,6 +6,7 @@ mod draw;
 mod machine;
 mod sets;
 mod side;
+mod states;
 mod tally;
 mod texts;
 mod waveform;

@@ -9,8 +9,18 @@ pub use wanted::{jobs_of, numbers_of, WANTED};
 /// A number from 0 on, or the number of a refusal.
 pub type Answer = Result<i64, i64>;
 
-/// How many numbers a machine's state is.
-pub const STATE: usize = 65;
+/// How many numbers a machine's state is: the time, and for each of 64 jobs its work and its completion.
+pub const STATE: usize = 129;
+
+/// Where among a state's numbers the work of the job at a place stands.
+pub fn work_place(place: usize) -> usize {
+    1 + place
+}
+
+/// Where its completion stands.
+pub fn completion_place(place: usize) -> usize {
+    65 + place
+}
 
 /// The functions on texts, then those on sets.
 pub struct Side {

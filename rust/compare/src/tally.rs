@@ -1,4 +1,4 @@
-//! Counts what agrees, what does not, and how often each refusal was met.
+//! Counts what agrees, what does not, how often each refusal was met, and how many runs readiness decides.
 
 use crate::side::{Answer, Side, PART, WANTED};
 use std::fmt::Debug;
@@ -14,6 +14,8 @@ pub struct Tally {
     passed: u64,
     failed: u64,
     met: [u64; REFUSALS + 1],
+    runs: u64,
+    decided: u64,
 }
 
 impl Tally {
@@ -56,12 +58,21 @@ impl Tally {
         }
     }
 
-    /// Prints the counts, and answers whether all agreed and each refusal was met.
+    /// Counts a run, and whether readiness decides it.
+    pub fn run(&mut self, decided: bool) {
+        self.runs += 1;
+        self.decided += u64::from(decided);
+    }
+
+    /// Prints the counts, and answers whether all agreed, each refusal was met, and readiness decided many runs.
     pub fn close(&mut self) -> bool {
         for number in 1..=REFUSALS {
             self.same("refusals met", &number, self.met[number] > 0, true);
         }
+        let (decided, runs) = (self.decided, self.runs);
+        self.same("runs that readiness decides", &(decided, runs), decided > runs / 4, true);
         println!("compare: refusals met, from 1 on: {:?}", &self.met[1..]);
+        println!("compare: readiness decides {decided} of {runs} runs");
         println!("{} passed, {} failed", self.passed, self.failed);
         self.failed == 0
     }

@@ -93,4 +93,5 @@ fn compare_run(tally: &mut Tally, set: &Set, jobs: &[reference::Job], most: &[u6
     let mut state = State::START;
     let finished = (0..=run.end).any(|_| set.tick(&times, &mut state) == Ok(Ticked::Finished));
     tally.same("Set::tick", &jobs, (finished, state.time, &state.work[..jobs.len()]), (true, run.end, most));
+    tally.same("Set::tick", &jobs, &state.completions[..jobs.len()], &machine::completions(jobs, most));
 }

@@ -19,7 +19,7 @@
 //!         Ticked::Finished => break,
 //!     }
 //! }
-//! assert_eq!((state.time, &state.work[..3]), (13, &[6, 2, 3][..]));
+//! assert_eq!((state.time, &state.work[..3], &state.completions[..3]), (13, &[6, 2, 3][..], &[6, 8, 13][..]));
 //! # Ok::<(), cudlomer::Refused>(())
 //! ```
 

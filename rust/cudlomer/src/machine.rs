@@ -27,17 +27,19 @@ impl Index<usize> for Times {
     }
 }
 
-/// The machine's state: the time, and the ticks of work done of each job. What stands beyond the jobs is neither read nor changed.
+/// The machine's state: the time, the ticks of work done of each job, and when each complete job was completed. The completion of a job that is not
+/// complete is not read, and stays until the tick that completes the job; what stands beyond the jobs is neither read nor changed.
 #[repr(C)]
 #[derive(Clone, Copy, Debug, PartialEq, Eq)]
 pub struct State {
     pub time: u64,
     pub work: [u64; Set::MAX_JOBS],
+    pub completions: [u64; Set::MAX_JOBS],
 }
 
 impl State {
-    /// Time 0, and no work done.
-    pub const START: State = State { time: 0, work: [0; Set::MAX_JOBS] };
+    /// Time 0, no work done and no completion.
+    pub const START: State = State { time: 0, work: [0; Set::MAX_JOBS], completions: [0; Set::MAX_JOBS] };
 
     /// The greatest time of a state, which no run from time 0 reaches.
     pub const LAST_TIME: u64 = 2_000_000_000;

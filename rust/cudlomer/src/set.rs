@@ -114,7 +114,22 @@ impl Set {
         answer(unsafe { ffi::cudlomer_set_rounds(self.numbers(), self.length()) })
     }
 
-    /// Applies one tick to a state; refuses with 8 where the running times do not fit the set, and with 11 where the state cannot be.
+    /// Applies one tick to a state: of the jobs released by its time whose predecessor is complete, the most urgent runs, among equals the one ready
+    /// since the earliest time, then that of the lowest chain. A job is ready since its release or its predecessor's completion, whichever is later.
+    /// Refuses with 8 where the running times do not fit the set, and with 11 where the state cannot be: its time is beyond `State::LAST_TIME`; or a
+    /// job has more work than its time, or work though its predecessor is not complete or the time is not after its release; or a complete job's
+    /// completion is later than the time or not after its release.
+    ///
+    /// ```
+    /// # use cudlomer::{Job, Set, State, Ticked};
+    /// let later = Job { chain: 1, job: 1, release: 2, priority: 1, least: 3, most: 3, deadline: 7 };
+    /// let set = Set::of(&[later, Job { chain: 2, release: 0, least: 4, most: 4, ..later }])?;
+    /// let times = set.times(|job| job.most);
+    /// let mut state = State::START;
+    /// while set.tick(&times, &mut state)? != Ticked::Finished {}
+    /// assert_eq!(state.completions[..2], [7, 4]);
+    /// # Ok::<(), cudlomer::Refused>(())
+    /// ```
     pub fn tick(&self, times: &Times, state: &mut State) -> Result<Ticked, Refused> {
         let lent: *mut State = state;
         // The function reads within the set's jobs and the times, and writes within the state, which is plain numbers.

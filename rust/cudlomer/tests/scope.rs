@@ -43,6 +43,18 @@ fn deadlines_and_a_shorter_run_of_p4() {
     assert_eq!(set.run(&set.times(|job| job.least)).unwrap().end, 8);
 }
 
+/// Two equals, of which chain 2 is ready since 0 and chain 1 since 2.
+#[test]
+fn equals_in_order_of_readiness() {
+    let set = read("1,1,2,1,3,3,7\r\n2,1,0,1,4,4,7\r\n");
+    let times = set.times(|job| job.most);
+    let rows = [(2, 1, 0, 4), (1, 1, 4, 7)];
+    assert_eq!(set.trace(&times).unwrap().rows(), rows.map(|(chain, job, from, to)| Row { chain, job, from, to }));
+    let mut state = State::START;
+    while set.tick(&times, &mut state).unwrap() != Ticked::Finished {}
+    assert_eq!((state.time, &state.work[..2], &state.completions[..2]), (7, &[3, 4][..], &[7, 4][..]));
+}
+
 /// P4 with 3, byte for byte.
 #[test]
 fn waveform_of_p4() {
@@ -80,4 +92,18 @@ fn refusals() {
     let mut late = State { time: State::LAST_TIME + 1, ..State::START };
     assert_eq!(set.tick(&times, &mut late), Err(Refused(11)));
     assert_eq!((set.tick(&times, &mut State::START.clone()), Refused(11).to_string()), (Ok(Ticked::Idle), "refused with 11".to_owned()));
+}
+
+/// P4, complete at 20, is completed after its release at 5 and not after 20.
+#[test]
+fn completions_that_cannot_be() {
+    let set = Set::of(&[p4(12)]).unwrap();
+    let times = set.times(|job| job.most);
+    let ticked = |completion| {
+        let mut state = State { time: 20, ..State::START };
+        (state.work[0], state.completions[0]) = (7, completion);
+        set.tick(&times, &mut state)
+    };
+    assert_eq!([0, 5, 21, u64::MAX].map(ticked), [Err(Refused(11)); 4]);
+    assert_eq!([6, 20].map(ticked), [Ok(Ticked::Finished); 2]);
 }

@@ -1,6 +1,6 @@
 //! What each function has to answer and to leave in lent memory, by the plain reference.
 
-use super::{Answer, Side, STATE};
+use super::{completion_place, work_place, Answer, Side, STATE};
 use reference::machine::{self, State, Ticked};
 use reference::{bounds, set, table, text, waveform, Job};
 
@@ -54,10 +54,12 @@ fn set_tick(numbers: &[u64], times: &[u64], lent: &mut [u64]) -> Answer {
     if lent.len() < STATE {
         return Err(9);
     }
-    let mut state = State { time: lent[0], work: lent[1..STATE].to_vec() };
+    let (work, completions) = (work_place(0), completion_place(0));
+    let mut state = State { time: lent[0], work: lent[work..completions].to_vec(), completions: lent[completions..STATE].to_vec() };
     let ticked = machine::tick(&jobs, times, &mut state)?;
     lent[0] = state.time;
-    put(&state.work, &mut lent[1..])?;
+    put(&state.work, &mut lent[work..])?;
+    put(&state.completions, &mut lent[completions..])?;
     Ok(match ticked {
         Ticked::Idle => 0,
         Ticked::Finished => 1,

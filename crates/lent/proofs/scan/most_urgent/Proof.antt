@@ -54,6 +54,7 @@ use Rattle.jobs.specs.declared.job.Job.{Job}
 use Rattle.lent.specs.declared.scan.Scan.{Scan}
 use Rattle.machine.specs.declared.state.State.{State}
 use Rattle.machine.specs.declared.pick.Best.{Best}
+use Rattle.machine.specs.declared.rank.Rank.{Rank}
 use Rattle.machine.specs.Ticks.{bestUpTo}
 use Rattle.machine.proofs.Scanned.{scanned}
 use Rattle.lent.proofs.Scanning.{figuresOf, scanFrom, scanOf, best-so-far}
@@ -67,6 +68,8 @@ use Rattle.jobs.proofs.job.Job as J
 use Rattle.jobs.proofs.job.Job.Laws as J′
 use Rattle.machine.proofs.pick.Best as P
 use Rattle.machine.proofs.pick.Best.Laws as P′
+use Rattle.machine.proofs.rank.Rank as R
+use Rattle.machine.proofs.rank.Rank.Laws as R′
 use Rattle.lent.proofs.scan.Scan as B
 use Rattle.lent.proofs.scan.Scan.Laws as B′
 use Rattle.lent.proofs.scan.look_at as look
@@ -84,13 +87,19 @@ stayed = (stay-none-slice (0 ∷ []) tt (plain (λ _. J.the-row)) yes, (stay-non
 abbrev job-bytes : ℕ
 job-bytes = size J′.mir
 
--- the machine value of a scan
+-- the machine values of a rank and of a scan
+abbrev rank-val : Rank → Val
+rank-val = LL.val R.the-type R′.the-laws
+
 abbrev scan-val : Scan → Val
 scan-val = LL.val B.the-type B′.the-laws
 
--- what lies in a cell tells the relation of a `Best` and of a `Scan`
+-- what lies in a cell tells the relation of a `Rank`, of a `Best` and of a `Scan`
+rank-is : (r : Rank) → WT (rank-val r) → Is R.the-row r (rank-val r ∷ [])
+rank-is r wt = LL.owes R.the-type R′.the-laws r ((refl, wt .0 .fits), ((refl, wt .1 .0 .fits), ((refl, wt .1 .1 .0 .fits), tt)))
+
 best-is : (r : Best) → WT (best-val r) → Is P.the-row r (best-val r ∷ [])
-best-is r wt = LL.owes P.the-type P′.the-laws r (refl, ((refl, wt .1 .0 .fits), ((refl, wt .1 .1 .0 .fits), ((refl, wt .1 .1 .1 .0 .fits), tt))))
+best-is r wt = LL.owes P.the-type P′.the-laws r (refl, ((refl, wt .1 .0 .fits), (rank-is (r .rank) (wt .1 .1 .0), tt)))
 
 scan-is : (r : Scan) → WT (scan-val r) → Is B.the-row r (scan-val r ∷ [])
 scan-is r wt =
@@ -178,7 +187,7 @@ module _ {M : Type 1} (𝓤 : URA M) (H : Heap 𝓤) (A : Atoms 𝓤) (W : Given
   looked-of : (i : ℕ) (r : Scan) → ent 𝓤 (ensured 𝓤 H A look.ended (look.clauses 𝓤 H A at-mem run) (κ₁, tt) (args i) tt r) (fact 𝓤 (Looked i r))
   looked-of i r = exE 𝓤 _ (λ us. snd∗ 𝓤 (sem 𝓤 H A (lasts look.ended (κ₁, tt) (args i) us)) (fact 𝓤 (Looked i r)))
 
-  module _ (𝓣 : Tables 𝓤 H) (known : Triple 𝓤 (𝓣 .C #look-at) (Look 𝓤 H A at-mem run)) (q′ : Share) (l₀ l₁ l₂ l₃ l₄ l₅ l₆ l₇ l₈ l₉ l₁₀ l₁₁ : ℕ) where
+  module _ (𝓣 : Tables 𝓤 H) (known : Triple 𝓤 (𝓣 .C #look-at) (Look 𝓤 H A at-mem run)) (q′ : Share) (l₀ l₁ l₂ l₃ l₄ l₅ l₆ l₇ l₈ l₉ l₁₀ l₁₁ l₁₂ : ℕ) where
     abbrev word : Ty
     word = tyInt w64
 
@@ -189,18 +198,19 @@ module _ {M : Type 1} (𝓤 : URA M) (H : Heap 𝓤) (A : Atoms 𝓤) (W : Given
     times-ty = sliceTy (tyRef (named 1) imm word)
 
     abbrev E : Env 𝓤 H
-    E = (P′.mir, l₀) ∷ (jobs-ty, l₁) ∷ (times-ty, l₂) ∷ (S′.mir, l₃) ∷ (B′.mir, l₄) ∷ (word, l₅) ∷ (J′.mir, l₆) ∷ (P′.mir, l₇) ∷ (word, l₈) ∷ (tyBool, l₉) ∷ (tyPtr, l₁₀) ∷ (J′.mir, l₁₁) ∷ []
+    E = (P′.mir, l₀) ∷ (jobs-ty, l₁) ∷ (times-ty, l₂) ∷ (S′.mir, l₃) ∷ (B′.mir, l₄) ∷ (word, l₅) ∷ (J′.mir, l₆) ∷ (R′.mir, l₇) ∷ (P′.mir, l₈) ∷ (word, l₉) ∷ (tyBool, l₁₀) ∷ (tyPtr, l₁₁) ∷ (J′.mir, l₁₂) ∷ []
 
     -- what no turn touches
     abbrev Frame : List (Item 𝓤)
     Frame = ‵ (fat fullShare jobs-ty l₁ 0 vj) ∷ ‵ (fat fullShare times-ty l₂ 0 vt) ∷ ‵ (fat fullShare S′.mir l₃ 0 (LL.val S.the-type S′.the-laws s)) ∷ ‵ (froom P′.mir l₀ 0)
         ∷ ‵ (fobor κ q (arr-parts (shares J.the-row) n .part q′ (js .now) b o)) ∷ ‵ OwnJ
-        ∷ ‵ (fdies P′.mir l₀) ∷ ‵ (fdies jobs-ty l₁) ∷ ‵ (fdies times-ty l₂) ∷ ‵ (fdies S′.mir l₃) ∷ ‵ (fdies B′.mir l₄) ∷ ‵ (fdies word l₅) ∷ ‵ (fdies J′.mir l₆) ∷ ‵ (fdies word l₈) ∷ ‵ (fdies tyBool l₉) ∷ ‵ (fdies tyPtr l₁₀) ∷ ‵ (fdies J′.mir l₁₁) ∷ ‵ (froom P′.mir l₇ 0) ∷ ‵ (fdies P′.mir l₇) ∷ []
+        ∷ ‵ (fdies P′.mir l₀) ∷ ‵ (fdies jobs-ty l₁) ∷ ‵ (fdies times-ty l₂) ∷ ‵ (fdies S′.mir l₃) ∷ ‵ (fdies B′.mir l₄) ∷ ‵ (fdies word l₅) ∷ ‵ (fdies J′.mir l₆) ∷ ‵ (fdies word l₉) ∷ ‵ (fdies tyBool l₁₀) ∷ ‵ (fdies tyPtr l₁₁) ∷ ‵ (fdies J′.mir l₁₂)
+        ∷ ‵ (froom R′.mir l₇ 0) ∷ ‵ (fdies R′.mir l₇) ∷ ‵ (froom P′.mir l₈ 0) ∷ ‵ (fdies P′.mir l₈) ∷ []
 
     -- the loop's head, where i jobs are passed
     abbrev At : ℕ → List (Item 𝓤)
     At i = ‵ (row J.the-row q′ (js .now) b o) ∷ ‵ (flft κ₁ q₁) ∷ ‵ OwnT ∷ ‵ (fat fullShare B′.mir l₄ 0 (scan-val (upTo i))) ∷ ‵ (fat fullShare word l₅ 0 (vint w64 i))
-        ∷ ‵ (froom J′.mir l₆ 0) ∷ ‵ (froom word l₈ 0) ∷ ‵ (froom tyBool l₉ 0) ∷ ‵ (froom tyPtr l₁₀ 0) ∷ ‵ (froom J′.mir l₁₁ 0) ∷ Frame
+        ∷ ‵ (froom J′.mir l₆ 0) ∷ ‵ (froom word l₉ 0) ∷ ‵ (froom tyBool l₁₀ 0) ∷ ‵ (froom tyPtr l₁₁ 0) ∷ ‵ (froom J′.mir l₁₂ 0) ∷ Frame
 
     -- how many jobs are passed: at most all
     abbrev X : Type 0
@@ -217,21 +227,21 @@ module _ {M : Type 1} (𝓤 : URA M) (H : Heap 𝓤) (A : Atoms 𝓤) (W : Given
 
     -- when the loop is left, the rest of the body runs
     abbrev Left : Out → SProp 𝓤
-    Left = afterBlock 𝓤 H (afterSeq 𝓤 H (Wp 𝓤 H (𝓣 .C) (𝓣 .Λ) E body.t-5 (atReturn 𝓤 H E Post)) (atReturn 𝓤 H E Post))
+    Left = afterBlock 𝓤 H (afterSeq 𝓤 H (Wp 𝓤 H (𝓣 .C) (𝓣 .Λ) E body.t-6 (atReturn 𝓤 H E Post)) (atReturn 𝓤 H E Post))
 
     -- a turn that looks at one job
     more : (i : X) → i .0 < n → Sq W (At (i .0)) (runs (𝓣 .C) (𝓣 .Λ) E body.turn-1 (anyQ (afterTurn 𝓤 H (Below 𝓤 H A ≺ Inv i) Left)))
     unfolding afterTurn
     more i small =
         move ! (3 ∷ []) $ well-typed ! (λ wt. move ! (1 ∷ 2 ∷ 3 ∷ 0 ∷ []) $
-        -- [the row; κ₁'s token; OwnT; _4 (3); _5 (4); _6 (5); _8 (6); _9 (7); _10 (8); _11 (9); _1 (10); _2 (11); _3 (12); _0 (13); …]
+        -- [the row; κ₁'s token; OwnT; _4 (3); _5 (4); _6 (5); _9 (6); _10 (7); _11 (8); _12 (9); _1 (10); _2 (11); _3 (12); _0 (13); …]
         assigns ! (of-opd ! (load ! (from ! (fld ! refl (stop !))) (look-in ! 10 (sub ! 1 refl (whole !))))) (from ! (stop !)) (init ! 6 refl (tt, record { fits = room .0 })) $
         assigns ! (bin ! (load ! (from ! (stop !)) (look ! 4 refl)) (load ! (from ! (stop !)) (look ! 6 refl)) tt) (from ! (stop !)) (init ! 7 refl (tt, tt)) $
-        rewrite ! 7 (λ (y : Bool). ‵ (fat fullShare tyBool l₉ 0 (vbool y))) (lt-ltb (i .0) n small) refl $
+        rewrite ! 7 (λ (y : Bool). ‵ (fat fullShare tyBool l₁₀ 0 (vbool y))) (lt-ltb (i .0) n small) refl $
         stays ! (load ! (from ! (stop !)) (look ! 7 refl)) $
         assigns ! (bin ! (load ! (from ! (stop !)) (look ! 4 refl)) (lit ! tt) (record { fits = scaled })) (from ! (stop !)) (store ! 6 refl (tt, record { fits = scaled })) $
         assigns ! (bin ! (load ! (from ! (fld ! refl (stop !))) (look-in ! 10 (sub ! 0 refl (whole !)))) (load ! (from ! (stop !)) (look ! 6 refl)) tt) (from ! (stop !)) (init ! 8 refl (tt, tt)) $
-        rewrite ! 8 (λ (p : ℕ). ‵ (fat fullShare tyPtr l₁₀ 0 (vptr b p))) (sym (place-is job-bytes o (i .0))) refl $
+        rewrite ! 8 (λ (p : ℕ). ‵ (fat fullShare tyPtr l₁₁ 0 (vptr b p))) (sym (place-is job-bytes o (i .0))) refl $
         elem-out ! J.the-row (Is J.the-row) (shows 𝓤 H A J.the-row) job-vals (LL.tells J.the-type J′.the-laws) q′ (js .now) (i .0) noJob b o small (λ g.
         -- [the job's cell; what it owns; the others; κ₁'s token; …: all two further]
         assigns ! (of-opd ! (load ! (from ! (hop ! (look ! 10 refl) (stop !))) (look-raw ! 0 refl))) (from ! (stop !)) (init ! 11 refl (LL.lawful J.the-type J′.the-laws 𝓤 H A W .typed (job (i .0)) _ g .0)) $
@@ -275,21 +285,21 @@ module _ {M : Type 1} (𝓤 : URA M) (H : Heap 𝓤) (A : Atoms 𝓤) (W : Given
         move ! (3 ∷ []) $ well-typed ! (λ wt. move ! (1 ∷ 2 ∷ 3 ∷ 0 ∷ []) $
         assigns ! (of-opd ! (load ! (from ! (fld ! refl (stop !))) (look-in ! 10 (sub ! 1 refl (whole !))))) (from ! (stop !)) (init ! 6 refl (tt, record { fits = room .0 })) $
         assigns ! (bin ! (load ! (from ! (stop !)) (look ! 4 refl)) (load ! (from ! (stop !)) (look ! 6 refl)) tt) (from ! (stop !)) (init ! 7 refl (tt, tt)) $
-        rewrite ! 7 (λ (y : Bool). ‵ (fat fullShare tyBool l₉ 0 (vbool y))) (le-ltb n n (omega arith)) refl $
-        leaves-loop ! (load ! (from ! (stop !)) (look ! 7 refl)) $ exec ! (𝓣 .C) (𝓣 .Λ) E body.t-5 (atRet E Post) $
+        rewrite ! 7 (λ (y : Bool). ‵ (fat fullShare tyBool l₁₀ 0 (vbool y))) (le-ltb n n (omega arith)) refl $
+        leaves-loop ! (load ! (from ! (stop !)) (look ! 7 refl)) $ exec ! (𝓣 .C) (𝓣 .Λ) E body.t-6 (atRet E Post) $
         assigns ! (of-opd ! (load ! (from ! (fld ! refl (stop !))) (look-in ! 3 (sub ! 0 refl (whole !))))) (from ! (stop !)) (init ! 13 refl (tt, wt .1 .0)) $
         move ! (0 ∷ 14 ∷ []) $ shuts-slice ! tt J.the-row q′ (js .now) b o $
-        -- [κ's token; κ₁'s; OwnT; _4 (3) .. _6 (5); _8 (6) .. _11 (9); _1 (10); _2 (11); _3 (12); _0 (13); OwnJ (14); dies of _0 (15) .. _6 (21), _8 (22) .. _11 (25); _7 (26); its dies (27)]
+        -- [κ's token; κ₁'s; OwnT; _4 (3) .. _6 (5); _9 (6) .. _12 (9); _1 (10); _2 (11); _3 (12); _0 (13); OwnJ (14); dies of _0 (15) .. _6 (21), _9 (22) .. _12 (25); _7 (26); its dies (27); _8 (28); its dies (29)]
         returns ! (look ! 13 refl) $ forget ! 3 refl $ forget ! 4 refl $ forget ! 6 refl $ forget ! 7 refl $ forget ! 10 refl $ forget ! 11 refl $ forget ! 12 refl $ forget ! 13 refl $
         move ! (13 ∷ 15 ∷ []) $ free1 ! $ move ! (10 ∷ 14 ∷ []) $ free1 ! $ move ! (10 ∷ 13 ∷ []) $ free1 ! $ move ! (10 ∷ 12 ∷ []) $ free1 ! $
-        -- [κ's; κ₁'s; OwnT; _4 (3) .. _11 (9); OwnJ (10); dies of _4 (11) .. _11 (17); _7 (18); its dies (19)]
-        move ! (3 ∷ 11 ∷ []) $ free1 ! $ move ! (3 ∷ 10 ∷ []) $ free1 ! $ move ! (3 ∷ 9 ∷ []) $ free1 ! $ move ! (12 ∷ 13 ∷ []) $ free1 ! $ move ! (3 ∷ 8 ∷ []) $ free1 ! $ move ! (3 ∷ 7 ∷ []) $ free1 ! $ move ! (3 ∷ 6 ∷ []) $ free1 ! $ move ! (3 ∷ 5 ∷ []) $ free1 ! $ free0 ! $
+        -- [κ's; κ₁'s; OwnT; _4 (3) .. _12 (9); OwnJ (10); dies of _4 (11) .. _12 (17); _7 (18); its dies (19); _8 (20); its dies (21)]
+        move ! (3 ∷ 11 ∷ []) $ free1 ! $ move ! (3 ∷ 10 ∷ []) $ free1 ! $ move ! (3 ∷ 9 ∷ []) $ free1 ! $ move ! (12 ∷ 13 ∷ []) $ free1 ! $ move ! (12 ∷ 13 ∷ []) $ free1 ! $ move ! (3 ∷ 8 ∷ []) $ free1 ! $ move ! (3 ∷ 7 ∷ []) $ free1 ! $ move ! (3 ∷ 6 ∷ []) $ free1 ! $ move ! (3 ∷ 5 ∷ []) $ free1 ! $ free0 ! $
         keep ! (0 ∷ 1 ∷ 3 ∷ 2 ∷ []) $ by ! (exits (best-is best (wt .1 .0))))
 
     turn-at : (i : X) → Sq W (Inv i) (runs (𝓣 .C) (𝓣 .Λ) E body.turn-1 (anyQ (afterTurn 𝓤 H (Below 𝓤 H A ≺ Inv i) Left)))
     turn-at i = ⊎-elim (λ e. subst (λ (k : ℕ). Sq W (At k) (runs (𝓣 .C) (𝓣 .Λ) E body.turn-1 (anyQ (afterTurn 𝓤 H (Below 𝓤 H A ≺ Inv i) Left)))) (sym e) (ends (Below 𝓤 H A ≺ Inv i))) (λ lt. more i lt) (eq-or-lt-of-le (i .1))
 
-    from-start : Sq W (At 0) (runs (𝓣 .C) (𝓣 .Λ) E body.t-4 (atRet E Post))
+    from-start : Sq W (At 0) (runs (𝓣 .C) (𝓣 .Λ) E body.t-5 (atRet E Post))
     from-start = first ! $ blocks ! $ loops ! 𝓣 ≺ ≺-wf Inv turn-at (0, omega arith)
 
   module _ (𝓣 : Tables 𝓤 H) (known : Triple 𝓤 (𝓣 .C #look-at) (Look 𝓤 H A at-mem run)) where
@@ -299,23 +309,24 @@ module _ {M : Type 1} (𝓤 : URA M) (H : Heap 𝓤) (A : Atoms 𝓤) (W : Given
     walk pj pt =
         qed W ((‵ (flft κ q) ⊛ ‵ (flft κ₁ q₁) ⊛ ‵ ftrue) ∷ ‵ (owns (ShrSlice (named 0) κ J.the-row ∷ ShrSlice (named 1) κ₁ u64 ∷ S.the-row ∷ []) x at) ∷ []) ∵
         enter ! (𝓣 .C) (𝓣 .Λ) code.function (vj ∷ vt ∷ LL.val S.the-type S′.the-laws s ∷ []) _ $
-        alloc1 ! (λ l₀. alloc1 ! (λ l₁. alloc1 ! (λ l₂. alloc1 ! (λ l₃. alloc1 ! (λ l₄. alloc1 ! (λ l₅. alloc1 ! (λ l₆. alloc1 ! (λ l₇. alloc1 ! (λ l₈. alloc1 ! (λ l₉. alloc1 ! (λ l₁₀. alloc1 ! (λ l₁₁. alloc0 ! $ params1 ! $
-        -- local i at 2 · (11 − i)
-        pass1 ! (init ! 20 refl (shr-slice-lawful 𝓤 H A W (named 0) κ J.the-row .typed js (vj ∷ []) pj .0)) $ pass1 ! (init ! 18 refl (shr-slice-lawful 𝓤 H A W (named 1) κ₁ u64 .typed ts (vt ∷ []) pt .0)) $
-        pass1 ! (init ! 16 refl (LL.lawful S.the-type S′.the-laws 𝓤 H A W .typed s _ s-is .0)) $ pass0 ! $
-        assigns ! (agg ! (and-then ! (false-lit !) (and-then ! (lit ! tt) (and-then ! (lit ! tt) (and-then ! (lit ! tt) (no-more !)))))) (from ! (stop !)) (init ! 8 refl (tt, (tt, (record { fits = lit< tt }, (record { fits = lit< tt }, (record { fits = lit< tt }, tt)))))) $
-        assigns ! (agg ! (and-then ! (load ! (from ! (stop !)) (look ! 8 refl)) (and-then ! (lit ! tt) (and-then ! (lit ! tt) (and-then ! (false-lit !) (and-then ! (false-lit !) (and-then ! (lit ! tt) (no-more !)))))))) (from ! (stop !)) (init ! 14 refl (tt, ((tt, (record { fits = lit< tt }, (record { fits = lit< tt }, (record { fits = lit< tt }, tt)))), (record { fits = lit< tt }, (record { fits = lit< tt }, (tt, (tt, (record { fits = lit< tt }, tt)))))))) $
-        forget ! 8 refl $
-        assigns ! (of-opd ! (lit ! tt)) (from ! (stop !)) (init ! 12 refl (tt, record { fits = lit< tt })) $
-        -- [locals (0 .. 23); the tokens; what is owned]
-        move ! (25 ∷ []) $ fsplit ! $ use1 W (‵ OwnJ ⊛ ‵ OwnJ) (shr-slice-copy 𝓤 H A W (named 0) κ J.the-row .twice js (vj ∷ [])) $ split ! $
-        fsplit ! $ drop ! $ fsplit ! $ drop ! $ move ! (27 ∷ []) $ split ! $ move ! (2 ∷ 0 ∷ []) $
+        alloc1 ! (λ l₀. alloc1 ! (λ l₁. alloc1 ! (λ l₂. alloc1 ! (λ l₃. alloc1 ! (λ l₄. alloc1 ! (λ l₅. alloc1 ! (λ l₆. alloc1 ! (λ l₇. alloc1 ! (λ l₈. alloc1 ! (λ l₉. alloc1 ! (λ l₁₀. alloc1 ! (λ l₁₁. alloc1 ! (λ l₁₂. alloc0 ! $ params1 ! $
+        -- local i at 2 · (12 − i)
+        pass1 ! (init ! 22 refl (shr-slice-lawful 𝓤 H A W (named 0) κ J.the-row .typed js (vj ∷ []) pj .0)) $ pass1 ! (init ! 20 refl (shr-slice-lawful 𝓤 H A W (named 1) κ₁ u64 .typed ts (vt ∷ []) pt .0)) $
+        pass1 ! (init ! 18 refl (LL.lawful S.the-type S′.the-laws 𝓤 H A W .typed s _ s-is .0)) $ pass0 ! $
+        assigns ! (agg ! (and-then ! (lit ! tt) (and-then ! (lit ! tt) (and-then ! (lit ! tt) (no-more !))))) (from ! (stop !)) (init ! 10 refl (tt, (record { fits = lit< tt }, (record { fits = lit< tt }, (record { fits = lit< tt }, tt))))) $
+        assigns ! (agg ! (and-then ! (false-lit !) (and-then ! (lit ! tt) (and-then ! (load ! (from ! (stop !)) (look ! 10 refl)) (no-more !))))) (from ! (stop !)) (init ! 8 refl (tt, (tt, (record { fits = lit< tt }, ((record { fits = lit< tt }, (record { fits = lit< tt }, (record { fits = lit< tt }, tt))), tt))))) $
+        assigns ! (agg ! (and-then ! (load ! (from ! (stop !)) (look ! 8 refl)) (and-then ! (lit ! tt) (and-then ! (lit ! tt) (and-then ! (false-lit !) (and-then ! (false-lit !) (and-then ! (lit ! tt) (no-more !)))))))) (from ! (stop !)) (init ! 16 refl (tt, ((tt, (record { fits = lit< tt }, ((record { fits = lit< tt }, (record { fits = lit< tt }, (record { fits = lit< tt }, tt))), tt))), (record { fits = lit< tt }, (record { fits = lit< tt }, (tt, (tt, (record { fits = lit< tt }, tt)))))))) $
+        forget ! 8 refl $ forget ! 10 refl $
+        assigns ! (of-opd ! (lit ! tt)) (from ! (stop !)) (init ! 14 refl (tt, record { fits = lit< tt })) $
+        -- [locals (0 .. 25); the tokens; what is owned]
+        move ! (27 ∷ []) $ fsplit ! $ use1 W (‵ OwnJ ⊛ ‵ OwnJ) (shr-slice-copy 𝓤 H A W (named 0) κ J.the-row .twice js (vj ∷ [])) $ split ! $
+        fsplit ! $ drop ! $ fsplit ! $ drop ! $ move ! (29 ∷ []) $ split ! $ move ! (2 ∷ 0 ∷ []) $
         looks-slice ! tt J.the-row (Is J.the-row) (shows 𝓤 H A J.the-row) job-vals (LL.tells J.the-type J′.the-laws) (LL.copy J.the-type J′.the-copy 𝓤 H A W) (js .now) b o (λ q′.
-        -- [the row; the open borrow; the fractured borrow; κ₁'s ⊛ true; OwnJ; the others' owns; locals (6 .. 29)]
+        -- [the row; the open borrow; the fractured borrow; κ₁'s ⊛ true; OwnJ; the others' owns; locals (6 .. 31)]
         move ! (3 ∷ []) $ split ! $ move ! (6 ∷ []) $ fsplit ! $
-        -- [OwnT; the state's; κ₁'s; true; the row; the open borrow; the fractured borrow; OwnJ; locals (8 .. 31)]
-        keep ! (4 ∷ 2 ∷ 0 ∷ 22 ∷ 20 ∷ 18 ∷ 14 ∷ 12 ∷ 10 ∷ 8 ∷ 28 ∷ 26 ∷ 24 ∷ 30 ∷ 5 ∷ 7 ∷ 31 ∷ 29 ∷ 27 ∷ 25 ∷ 23 ∷ 21 ∷ 19 ∷ 15 ∷ 13 ∷ 11 ∷ 9 ∷ 16 ∷ 17 ∷ []) $
-        from-start 𝓣 known q′ l₀ l₁ l₂ l₃ l₄ l₅ l₆ l₇ l₈ l₉ l₁₀ l₁₁)))))))))))))
+        -- [OwnT; the state's; κ₁'s; true; the row; the open borrow; the fractured borrow; OwnJ; locals (8 .. 33)]
+        keep ! (4 ∷ 2 ∷ 0 ∷ 24 ∷ 22 ∷ 20 ∷ 14 ∷ 12 ∷ 10 ∷ 8 ∷ 30 ∷ 28 ∷ 26 ∷ 32 ∷ 5 ∷ 7 ∷ 33 ∷ 31 ∷ 29 ∷ 27 ∷ 25 ∷ 23 ∷ 21 ∷ 15 ∷ 13 ∷ 11 ∷ 9 ∷ 18 ∷ 19 ∷ 16 ∷ 17 ∷ []) $
+        from-start 𝓣 known q′ l₀ l₁ l₂ l₃ l₄ l₅ l₆ l₇ l₈ l₉ l₁₀ l₁₁ l₁₂))))))))))))))
 
 module _ {M : Type 1} (𝓤 : URA M) (H : Heap 𝓤) (A : Atoms 𝓤) (W : Given 𝓤 H A) (at-mem : Memory → SProp 𝓤) (run : Routine → Fun 𝓤) where
   most-urgent-walks : (𝓣 : Tables 𝓤 H) → Triple 𝓤 (𝓣 .C #look-at) (Look 𝓤 H A at-mem run) → Walks 𝓤 H A most-urgent.ended stayed (WpFn 𝓤 H (𝓣 .C) (𝓣 .Λ) code.function) (most-urgent.clauses 𝓤 H A at-mem run)

@@ -11,12 +11,12 @@ use Rattle.machine.proofs.pick.best_of.Statement.{statement}
 use Rattle.machine.proofs.pick.best_of.Tie as tie
 
 abbrev Inv-loop : tie.InvT-loop
-Inv-loop count columns times work time found₀ at₀ best-urgency₀ best-chain₀ n₀ found at best-urgency best-chain n =
+Inv-loop count columns times work completions time found₀ at₀ rank₀ n₀ found at rank n =
     (n ≤ count)
-    × (record { found = found; at = at; urgency = best-urgency; chain = best-chain } ≡ bestUpTo (seen columns) times (stateOf time work) n)
+    × (record { found = found; at = at; rank = rank } ≡ bestUpTo (seen columns) times (stateOf time work completions) n)
 
 abbrev μ-loop : tie.MeasureT-loop
-μ-loop count columns times work time found₀ at₀ best-urgency₀ best-chain₀ n₀ found at best-urgency best-chain n = count - n
+μ-loop count columns times work completions time found₀ at₀ rank₀ n₀ found at rank n = count - n
 
 loop-holds : tie.Need-loop-holds Inv-loop μ-loop
 unfolding bestUpTo
@@ -32,7 +32,7 @@ loop-less : tie.Need-loop-less Inv-loop μ-loop
 loop-less c = search needs
 
 loop-again : tie.Need-loop-again Inv-loop μ-loop
-loop-again c = (omega arith, c .consider .ensures ∙ best-step _ _ _ _ _ (c .before .before .loop .inv .1))
+loop-again c = (omega arith, c .before .consider .ensures ∙ best-step _ _ _ _ _ (c .before .before .before .loop .inv .1))
 
 returns : tie.Need-returns Inv-loop μ-loop
 returns c = let e : c .before .loop .n ≡ c .before .before .before .args .count = omega arith in rw e at (c .before .loop .inv .1)

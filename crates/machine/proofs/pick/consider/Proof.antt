@@ -11,21 +11,16 @@ is-ready-requires c κs = search needs
 returns : tie.Need-returns
 returns c = simp (sym (c .before .is-ready .ensures) ∙ not-true _ (c .if1 .taken))
 
-figure-requires : tie.Need-figure-requires
-figure-requires c κs = search needs
-
-figure-requires-2 : tie.Need-figure-requires-2
-figure-requires-2 c κs = search needs
+rank-of-requires : tie.Need-rank-of-requires
+rank-of-requires c κs = search needs
 
 better-of-requires : tie.Need-better-of-requires
 better-of-requires c κs = search needs
 
 returns-2 : tie.Need-returns-2
 returns-2 c =
-    let is-ready = sym (c .before .before .before .before .is-ready .ensures) ∙ not-false _ (c .before .before .before .if1 .left) in
-    simp is-ready (c .better-of .ensures ∙ rw (c .before .before .figure .ensures, c .before .figure2 .ensures))
+    let is-ready = sym (c .before .before .before .is-ready .ensures) ∙ not-false _ (c .before .before .if1 .left) in
+    simp is-ready (c .better-of .ensures ∙ rw (c .before .rank-of .ensures))
 
 pub consider-spec : {M : Type 1} → statement M
-consider-spec =
-    tie.close
-    (tie.spec is-ready-requires returns figure-requires figure-requires-2 better-of-requires returns-2)
+consider-spec = tie.close (tie.spec is-ready-requires returns rank-of-requires better-of-requires returns-2)

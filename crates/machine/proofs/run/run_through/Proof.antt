@@ -1,4 +1,4 @@
--- `run_through` meets its contract. The loop's invariant: the state of the run at this time is reached, and its completions are noted. Assumes nothing.
+-- `run_through` meets its contract. The loop's invariant: the state of the run at this time is reached. Assumes nothing.
 use Prim.Native.Nat.{_-_}
 use mathlib.Core.Logic.{⊎-elim}
 use native.Mathlib.Omega.{arith}
@@ -8,12 +8,12 @@ use Rattle.jobs.specs.Jobs.{jobsOf}
 use Rattle.machine.specs.Ticks.{lastTime}
 use Rattle.machine.proofs.RunningTimes.{set-accepted, times-brief}
 use Rattle.machine.proofs.Ticking.{count-few, count-times}
-use Rattle.machine.proofs.Running.{reached-start, reached-finish, Reached, Noted, noted-start, noted-ran, noted-idle, noted-all, run-done, Turn, turn-early, turn-room, turn-work, turn-reached, turn-entry, turn-later, turn-ran, idle-reached, idle-kept}
+use Rattle.machine.proofs.Running.{Reached, reached-start, run-done, Turn, turn-early, turn-works, turn-reached, turn-later, turn-ran, idle-reached}
 use Rattle.machine.proofs.run.run_through.Statement.{statement}
 use Rattle.machine.proofs.run.run_through.Tie as tie
 
 abbrev Inv-loop : tie.InvT-loop
-Inv-loop set times columns work₀ completions₀ left₀ time₀ work completions left time = Reached (jobsOf set) times work left time × Noted (jobsOf set) times completions time
+Inv-loop set times columns work₀ completions₀ left₀ time₀ work completions left time = Reached (jobsOf set) times work completions left time
 
 abbrev μ-loop : tie.MeasureT-loop
 μ-loop set times columns work₀ completions₀ left₀ time₀ work completions left time = lastTime - time
@@ -21,7 +21,7 @@ abbrev μ-loop : tie.MeasureT-loop
 -- what is known after the scan
 module _ (c : tie.After-best-of Inv-loop μ-loop) where
   abbrev head : tie.At-loop Inv-loop μ-loop
-  head = c .before .before .before .before
+  head = c .before .before .before .before .before
 
   abbrev made : tie.After-columns-of Inv-loop μ-loop
   made = head .before .before
@@ -29,8 +29,8 @@ module _ (c : tie.After-best-of Inv-loop μ-loop) where
   abbrev start : tie.Start Inv-loop μ-loop
   start = made .before .before
 
-  turn : Turn (start .args .set) (made .columns-of .result) (now (start .args .times)) (head .loop .work) (head .loop .left) (head .loop .time) (c .best-of .result)
-  turn = record { prepared = (start .pre, made .columns-of .ensures); reached = head .loop .inv .0; more = c .before .before .before .loop-test .taken; scanned = c .best-of .ensures }
+  turn : Turn (start .args .set) (made .columns-of .result) (now (start .args .times)) (head .loop .work) (head .loop .completions) (head .loop .left) (head .loop .time) (c .best-of .result)
+  turn = record { prepared = (start .pre, made .columns-of .ensures); reached = head .loop .inv; more = c .before .before .before .before .loop-test .taken; scanned = c .best-of .ensures }
 
 columns-of-requires : tie.Need-columns-of-requires Inv-loop μ-loop
 columns-of-requires c κs = set-accepted _ _ (c .before .pre)
@@ -39,36 +39,13 @@ total-requires : tie.Need-total-requires Inv-loop μ-loop
 total-requires c κs = times-brief _ _ (c .before .before .pre)
 
 loop-holds : tie.Need-loop-holds Inv-loop μ-loop
-loop-holds c = let passed = c .before .before .before .pre in (reached-start _ _ passed _ (c .total .ensures), noted-start _ _ passed)
+loop-holds c = reached-start _ _ (c .before .before .before .pre) _ (c .total .ensures)
 
 best-of-requires : tie.Need-best-of-requires Inv-loop μ-loop
-best-of-requires c κs = let passed = c .before .before .before .before .before .before .before .pre in (count-few _ _ passed, count-times _ _ passed)
+best-of-requires c κs = let passed = c .before .before .before .before .before .before .before .before .pre in (count-few _ _ passed, count-times _ _ passed)
 
-mul-work : tie.Need-mul-work Inv-loop μ-loop
-mul-work c = omega (arith, turn-room (turn (c .before)) (c .if1 .taken))
-
-array-read-work : tie.Need-array-read-work Inv-loop μ-loop
-array-read-work c = turn-room (turn (c .before)) (c .if1 .taken)
-
-add-work : tie.Need-add-work Inv-loop μ-loop
-add-work c =
-    let scan = c .before in
-    omega (arith, turn-work (turn scan) (c .if1 .taken), c .before .before .before .before .before .before .before .before .shared-slice-known .given (scan .best-of .result .at))
-
-mul-work-2 : tie.Need-mul-work-2 Inv-loop μ-loop
-mul-work-2 c = omega (arith, turn-room (turn (c .before)) (c .if1 .taken))
-
-array-write-work : tie.Need-array-write-work Inv-loop μ-loop
-array-write-work c = turn-room (turn (c .before)) (c .if1 .taken)
-
-add-completions : tie.Need-add-completions Inv-loop μ-loop
-add-completions c = omega (arith, turn-early (turn (c .before)))
-
-mul-completions : tie.Need-mul-completions Inv-loop μ-loop
-mul-completions c = omega (arith, turn-room (turn (c .before)) (c .if1 .taken))
-
-array-write-completions : tie.Need-array-write-completions Inv-loop μ-loop
-array-write-completions c = turn-room (turn (c .before)) (c .if1 .taken)
+work-on-requires : tie.Need-work-on-requires Inv-loop μ-loop
+work-on-requires c κs = turn-works (turn (c .before .before .before)) (c .before .before .if1 .taken)
 
 sub-left : tie.Need-sub-left Inv-loop μ-loop
 sub-left c = search needs
@@ -81,28 +58,16 @@ loop-less c = let t = turn (c .before .before .before) in omega (arith, turn-ear
 
 loop-again : tie.Need-loop-again Inv-loop μ-loop
 loop-again c =
-    let scan = c .before .before .before in
-    let t = turn scan in
-    let passed = start scan .pre in
-    let noted = head scan .loop .inv .1 in
+    let t = turn (c .before .before .before) in
     ⊎-elim
     (λ w.
     let f = w .0 .taken in
-    rw (w .1, w .2, w .3, turn-ran t _ (c .next-time .ensures) f) (turn-reached t f, noted-ran _ _ passed noted _ (turn-room t f) (turn-entry t f)))
-    (λ w.
-    let f = w .0 .left in
-    rw (w .1, w .2, w .3) (
-      idle-reached t _ (c .next-time .ensures) f,
-      idle-kept t _ (c .next-time .ensures) f (Noted _ _ (head scan .loop .completions)) (λ n e kept. noted-idle _ _ passed kept e) noted,
-    ))
+    rw (w .4, w .5, w .6, w .3 .ensures .0, w .3 .ensures .1, turn-ran t _ (c .next-time .ensures) f) (turn-reached t f))
+    (λ w. rw (w .1, w .2, w .3) (idle-reached t _ (c .next-time .ensures) (w .0 .left)))
     (c .before .before .if1 .came)
 
 returns : tie.Need-returns Inv-loop μ-loop
-returns c =
-    let passed = c .before .before .before .before .before .pre in
-    let l = c .before .loop in
-    let none = c .loop-test .left in
-    run-done _ _ passed _ _ _ (reached-finish _ _ passed (l .inv .0) none) (noted-all _ _ passed (l .inv .1) (l .inv .0) none)
+returns c = run-done _ _ (c .before .before .before .before .before .pre) (c .before .loop .inv) (c .loop-test .left)
 
 pub run-through-spec : {M : Type 1} → statement M
 run-through-spec =
@@ -114,14 +79,7 @@ run-through-spec =
     total-requires
     loop-holds
     best-of-requires
-    mul-work
-    array-read-work
-    add-work
-    mul-work-2
-    array-write-work
-    add-completions
-    mul-completions
-    array-write-completions
+    work-on-requires
     sub-left
     next-time-requires
     loop-less

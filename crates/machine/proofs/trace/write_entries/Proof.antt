@@ -10,17 +10,17 @@ use Rattle.jobs.proofs.Sets.{length-jobs, job-at}
 use Rattle.machine.specs.Ticks.{lastTime}
 use Rattle.machine.proofs.RunningTimes.{set-accepted, times-brief}
 use Rattle.machine.proofs.Ticking.{count-few, count-times}
-use Rattle.machine.proofs.Running.{Reached, reached-start, Turn, turn-early, turn-room, turn-inside, turn-work, turn-reached, turn-entry, turn-later, turn-ran, idle-reached, idle-kept}
+use Rattle.machine.proofs.Running.{Reached, reached-start, Turn, turn-early, turn-room, turn-inside, turn-works, turn-reached, turn-entry, turn-later, turn-ran, idle-reached, idle-kept}
 use Rattle.machine.proofs.Tracing.{Written, written-start, written-few, written-length, written-idle, put-room, written-ran, written-count, written-all}
 use Rattle.machine.proofs.trace.write_entries.Statement.{statement}
 use Rattle.machine.proofs.trace.write_entries.Tie as tie
 
 abbrev Inv-loop : tie.InvT-loop
-Inv-loop times out₀ set columns work₀ left₀ last₀ entries₀ time₀ out work left last entries time =
-    Reached (jobsOf set) times work left time × Written (jobsOf set) times out₀ out last entries time
+Inv-loop times out₀ set columns work₀ completions₀ left₀ last₀ entries₀ time₀ out work completions left last entries time =
+    Reached (jobsOf set) times work completions left time × Written (jobsOf set) times out₀ out last entries time
 
 abbrev μ-loop : tie.MeasureT-loop
-μ-loop times out₀ set columns work₀ left₀ last₀ entries₀ time₀ out work left last entries time = lastTime - time
+μ-loop times out₀ set columns work₀ completions₀ left₀ last₀ entries₀ time₀ out work completions left last entries time = lastTime - time
 
 wide : (c : tie.Start Inv-loop μ-loop) → 8 * length (jobsOf (c .args .t1)) ≤ length (now (c .args .out))
 wide c = rw length-jobs (c .pre .1)
@@ -28,7 +28,7 @@ wide c = rw length-jobs (c .pre .1)
 -- what is known after the scan
 module _ (c : tie.After-best-of Inv-loop μ-loop) where
   abbrev head : tie.At-loop Inv-loop μ-loop
-  head = c .before .before .before .before
+  head = c .before .before .before .before .before
 
   abbrev made : tie.After-columns-of Inv-loop μ-loop
   made = head .before .before
@@ -36,8 +36,8 @@ module _ (c : tie.After-best-of Inv-loop μ-loop) where
   abbrev begun : tie.Start Inv-loop μ-loop
   begun = made .before .before .before
 
-  turn : Turn (begun .args .t1) (made .columns-of .result) (now (begun .args .times)) (head .loop .work) (head .loop .left) (head .loop .time) (c .best-of .result)
-  turn = record { prepared = (begun .pre .0, made .columns-of .ensures); reached = head .loop .inv .0; more = c .before .before .before .loop-test .taken; scanned = c .best-of .ensures }
+  turn : Turn (begun .args .t1) (made .columns-of .result) (now (begun .args .times)) (head .loop .work) (head .loop .completions) (head .loop .left) (head .loop .time) (c .best-of .result)
+  turn = record { prepared = (begun .pre .0, made .columns-of .ensures); reached = head .loop .inv .0; more = c .before .before .before .before .loop-test .taken; scanned = c .best-of .ensures }
 
   -- that what is written so far is the spans up to a time
   abbrev WrittenBy : ℕ → Type 0
@@ -53,41 +53,27 @@ loop-holds : tie.Need-loop-holds Inv-loop μ-loop
 loop-holds c = (reached-start _ _ (c .before .before .before .before .pre .0) _ (c .total .ensures), written-start _ _ _)
 
 best-of-requires : tie.Need-best-of-requires Inv-loop μ-loop
-best-of-requires c κs = let passed = c .before .before .before .before .before .before .before .before .pre .0 in (count-few _ _ passed, count-times _ _ passed)
+best-of-requires c κs = let passed = c .before .before .before .before .before .before .before .before .before .pre .0 in (count-few _ _ passed, count-times _ _ passed)
 
-mul-work : tie.Need-mul-work Inv-loop μ-loop
-mul-work c = omega (arith, turn-room (turn (c .before)) (c .if1 .taken))
-
-array-read-work : tie.Need-array-read-work Inv-loop μ-loop
-array-read-work c = turn-room (turn (c .before)) (c .if1 .taken)
-
-add-work : tie.Need-add-work Inv-loop μ-loop
-add-work c =
-    let scan = c .before in
-    omega (arith, turn-work (turn scan) (c .if1 .taken), c .before .before .before .before .before .before .before .before .before .shared-slice-known .given (scan .best-of .result .at))
-
-mul-work-2 : tie.Need-mul-work-2 Inv-loop μ-loop
-mul-work-2 c = omega (arith, turn-room (turn (c .before)) (c .if1 .taken))
-
-array-write-work : tie.Need-array-write-work Inv-loop μ-loop
-array-write-work c = turn-room (turn (c .before)) (c .if1 .taken)
+work-on-requires : tie.Need-work-on-requires Inv-loop μ-loop
+work-on-requires c κs = turn-works (turn (c .before .before .before)) (c .before .before .if1 .taken)
 
 sub-left : tie.Need-sub-left Inv-loop μ-loop
 sub-left c = search needs
 
 put-at-requires : tie.Need-put-at-requires Inv-loop μ-loop
-put-at-requires c κs = let scan = c .before in (written-few _ _ _ (begun scan .pre .0) (wide (begun scan)) (head scan .loop .inv .1), turn-early (turn scan))
+put-at-requires c κs = let scan = c .before .before .before .before in (written-few _ _ _ (begun scan .pre .0) (wide (begun scan)) (head scan .loop .inv .1), turn-early (turn scan))
 
 mul-write-entry : tie.Need-mul-write-entry Inv-loop μ-loop
-mul-write-entry c = omega (arith, turn-room (turn (c .before .before)) (c .before .if1 .taken))
+mul-write-entry c = omega (arith, turn-room (turn (c .before .before .before .before .before)) (c .before .before .before .before .if1 .taken))
 
 element-copy-out-write-entry : tie.Need-element-copy-out-write-entry Inv-loop μ-loop
-element-copy-out-write-entry c = turn-room (turn (c .before .before)) (c .before .if1 .taken)
+element-copy-out-write-entry c = turn-room (turn (c .before .before .before .before .before)) (c .before .before .before .before .if1 .taken)
 
 write-entry-requires : tie.Need-write-entry-requires Inv-loop μ-loop
 write-entry-requires c κs =
-    let scan = c .before .before .before .before in
-    let runs = turn-entry (turn scan) (c .before .before .before .if1 .taken) in
+    let scan = c .before .before .before .before .before .before .before in
+    let runs = turn-entry (turn scan) (c .before .before .before .before .before .before .if1 .taken) in
     put-room _ _ _ (begun scan .pre .0) (wide (begun scan)) (head scan .loop .inv .1) _ runs _ (c .before .before .put-at .ensures)
 
 next-time-requires : tie.Need-next-time-requires Inv-loop μ-loop
@@ -106,13 +92,13 @@ loop-again c =
     ⊎-elim
     (λ w.
     let f = w .0 .taken in
-    rw (w .8, w .9, w .10, w .11, w .12, w .4 .ensures, turn-ran t _ (c .next-time .ensures) f) (
+    rw (w .11, w .12, w .13, w .14, w .15, w .16, w .3 .ensures .0, w .3 .ensures .1, w .7 .ensures, turn-ran t _ (c .next-time .ensures) f) (
       turn-reached t f,
-      written-ran _ _ _ passed room written _ (turn-entry t f) _ (w .1 .ensures) _ (job-at _ _ (turn-inside t f)),
+      written-ran _ _ _ passed room written _ (turn-entry t f) _ (w .4 .ensures) _ (job-at _ _ (turn-inside t f)),
     ))
     (λ w.
     let f = w .0 .left in
-    rw (w .1, w .2, w .3, w .4, w .5) (
+    rw (w .1, w .2, w .3, w .4, w .5, w .6) (
       idle-reached t _ (c .next-time .ensures) f,
       idle-kept t _ (c .next-time .ensures) f (WrittenBy scan) (λ n e kept. written-idle _ _ _ passed room kept e) written,
     ))
@@ -138,11 +124,7 @@ write-entries-spec =
     total-requires
     loop-holds
     best-of-requires
-    mul-work
-    array-read-work
-    add-work
-    mul-work-2
-    array-write-work
+    work-on-requires
     sub-left
     put-at-requires
     mul-write-entry

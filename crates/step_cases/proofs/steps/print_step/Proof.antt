@@ -7,8 +7,14 @@ use Rattle.step_cases.proofs.steps.print_step.Tie as tie
 set-of-requires : tie.Need-set-of-requires
 set-of-requires c κs = search needs
 
-numbers-of-requires : tie.Need-numbers-of-requires
-numbers-of-requires c κs = search needs
+lines-of-requires : tie.Need-lines-of-requires
+lines-of-requires c κs = search needs
+
+element-copy-out-count : tie.Need-element-copy-out-count
+element-copy-out-count c = search needs
+
+element-copy-out-handed : tie.Need-element-copy-out-handed
+element-copy-out-handed c = search needs
 
 state-of-requires : tie.Need-state-of-requires
 state-of-requires c κs = search needs
@@ -20,13 +26,13 @@ array-share-prefix-times : tie.Need-array-share-prefix-times
 array-share-prefix-times c = search needs
 
 slice-aggregate-print-ticks : tie.Need-slice-aggregate-print-ticks
-slice-aggregate-print-ticks c = length-lent (c .before .before .before .times-of .result) (c .before .before .before .times-of .ensures) (c .before .if2 .taken)
+slice-aggregate-print-ticks c =
+    let at-room = c .before in
+    let at-times = at-room .before .before in
+    length-lent (at-times .times-of .result) (at-times .times-of .ensures) (at-room .if2 .taken)
 
 sub-print-ticks : tie.Need-sub-print-ticks
 sub-print-ticks c = search needs
-
-sub-print-ticks-2 : tie.Need-sub-print-ticks-2
-sub-print-ticks-2 c = search needs
 
 print-ticks-requires : tie.Need-print-ticks-requires
 print-ticks-requires c κs = search needs
@@ -45,13 +51,14 @@ print-step-spec =
     tie.close
     (tie.spec
     set-of-requires
-    numbers-of-requires
+    lines-of-requires
+    element-copy-out-count
+    element-copy-out-handed
     state-of-requires
     times-of-requires
     array-share-prefix-times
     slice-aggregate-print-ticks
     sub-print-ticks
-    sub-print-ticks-2
     print-ticks-requires
     returns
     returns-2

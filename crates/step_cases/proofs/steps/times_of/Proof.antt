@@ -8,10 +8,10 @@ use Rattle.step_cases.proofs.steps.times_of.Statement.{statement}
 use Rattle.step_cases.proofs.steps.times_of.Tie as tie
 
 abbrev Inv-loop : tie.InvT-loop
-Inv-loop numbers times₀ i₀ times i = maxJobs ≡ length times
+Inv-loop lines times₀ i₀ times i = maxJobs ≡ length times
 
 abbrev μ-loop : tie.MeasureT-loop
-μ-loop numbers times₀ i₀ times i = maxJobs - i
+μ-loop lines times₀ i₀ times i = maxJobs - i
 
 loop-holds : tie.Need-loop-holds Inv-loop μ-loop
 loop-holds c = search needs
