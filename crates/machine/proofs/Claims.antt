@@ -37,8 +37,8 @@ use Rattle.machine.proofs.Reading.{spans-give-back}
 use Rattle.machine.proofs.Completions.{kept-complete}
 use Rattle.machine.proofs.Equals.{equals-not-displaced}
 use Rattle.machine.proofs.Possible.{state-possible}
-use Rattle.machine.proofs.Written.{completion-written, completion-kept}
-use Rattle.machine.proofs.Unread.{completions-unread}
+use Rattle.machine.proofs.Written.{completion-written, completion-kept, work-kept}
+use Rattle.machine.proofs.Unread.{entries-unread}
 
 -- ---- in any state
 -- "finished" is no answer of a tick with an entry
@@ -139,7 +139,8 @@ claims js times passed =
       equals-not-displaced = not-displaced js times passed;
       completion-written = completion-written js times (few-jobs js times passed);
       completion-kept = completion-kept js times (few-jobs js times passed);
-      completions-unread = completions-unread js times (few-jobs js times passed);
+      work-kept = work-kept js times;
+      entries-unread = entries-unread js times (few-jobs js times passed);
       state-completions = state-completions js times passed;
       run-possible = run-possible js times passed;
       trace-gives-back = trace-gives-back js times passed;

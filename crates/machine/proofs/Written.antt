@@ -1,4 +1,5 @@
--- What a tick writes into the completions: the end of the tick where it completes a job, and nothing else. Assumes a set that fits its places.
+-- What a tick writes: into the completions its own end where it completes a job, and nothing else; no work beyond the table. Assumes a set that fits its
+-- places.
 use Prim.Native.Nat.{ℕ, _+_, _≤_, _<_}
 use mathlib.Core.Path.{_≡_, refl, sym, ap, _∙_}
 use mathlib.Core.List.{List}
@@ -18,7 +19,7 @@ use Rattle.machine.specs.declared.state.State.{State}
 use Rattle.machine.specs.declared.step.Ticked.the-variants.{Refused as RefusedTick}
 use Rattle.machine.specs.Ticks.{allComplete, pick, moved, next, machineCheck, stateCheck, tickOf, stepOf}
 use Rattle.machine.specs.Claims.{Whole, Completes}
-use Rattle.machine.proofs.Readiness.{worked-here, complete-other, noted-here, noted-open, noted-other}
+use Rattle.machine.proofs.Readiness.{worked-here, worked-other, complete-other, noted-here, noted-open, noted-other}
 use Rattle.machine.proofs.Ticking.{pick-chosen, pick-open, next-moved, next-stays}
 
 -- ---- a tick in which the job at k runs
@@ -89,3 +90,10 @@ module _ (js : List Job) (times : List ℕ) (few : length js ≤ maxJobs) (s : S
       moves : (e : Entry) → pick (tableOf js) times s ≡ e → (Completes js times s (moved times e s) u → ⊥) → numberAt (moved times e s .completions) u ≡ numberAt (s .completions) u
       moves idle q never = refl
       moves (runs k) q never = ran-kept js times few s whole k q u never
+
+pub work-kept : (js : List Job) (times : List ℕ) (s : State) (u : ℕ) → length js ≤ u → numberAt (stepOf js times s .state .work) u ≡ numberAt (s .work) u
+work-kept js times s u beyond = by-step js times s (λ later. numberAt (later .work) u ≡ numberAt (s .work) u) refl moves
+  where
+    moves : (e : Entry) → pick (tableOf js) times s ≡ e → numberAt (moved times e s .work) u ≡ numberAt (s .work) u
+    moves idle q = refl
+    moves (runs k) q = worked-other times (s .work) k u (λ e. omega (arith, beyond, e, pick-chosen (tableOf js) times s k q .inside))

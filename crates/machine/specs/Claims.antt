@@ -22,10 +22,10 @@ abbrev pub Completes : List Job → List ℕ → State → State → ℕ → Typ
 Completes js times s later u =
     (u < length js) × (complete times (numberAt (s .work)) u ≡ false) × (complete times (numberAt (later .work)) u ≡ true)
 
--- Two states that differ at most in completions of jobs that are not complete, or beyond the table.
+-- Two states that differ at most in completions of jobs that are not complete, and in what stands beyond the table.
 pub record SameRead (js : List Job) (times : List ℕ) (s other : State) : Type 0 where
   pub time : other .time ≡ s .time
-  pub work : other .work ≡ s .work
+  pub work : (u : ℕ) → u < length js → numberAt (other .work) u ≡ numberAt (s .work) u
   pub completions : (u : ℕ) → u < length js → complete times (numberAt (s .work)) u ≡ true → numberAt (other .completions) u ≡ numberAt (s .completions) u
   pub whole : Whole s × Whole other
 
@@ -45,12 +45,14 @@ pub record Claims (js : List Job) (times : List ℕ) : Type 0 where
   -- A tick that completes a job writes its own end as the job's completion.
   pub completion-written : (s : State) → Whole s → (u : ℕ) → Completes js times s (stepOf js times s .state) u
       → numberAt (stepOf js times s .state .completions) u ≡ s .time + 1
-  -- A tick changes no other entry.
+  -- A tick changes no other completion.
   pub completion-kept : (s : State) → Whole s → (u : ℕ) → (Completes js times s (stepOf js times s .state) u → ⊥)
       → numberAt (stepOf js times s .state .completions) u ≡ numberAt (s .completions) u
-  -- Entries of jobs that are not complete, and those beyond the table, are not read: where states differ in no others, a tick gives the same answer, and
-  -- the states after it again differ in no others.
-  pub completions-unread : (s other : State) → SameRead js times s other
+  -- A tick changes no work beyond the table.
+  pub work-kept : (s : State) (u : ℕ) → length js ≤ u → numberAt (stepOf js times s .state .work) u ≡ numberAt (s .work) u
+  -- Completions of jobs that are not complete, and what stands beyond the table, are not read: where states differ in nothing else, a tick gives the same
+  -- answer, and the states after it again differ in nothing else.
+  pub entries-unread : (s other : State) → SameRead js times s other
       → (stepOf js times other .ticked ≡ stepOf js times s .ticked) × SameRead js times (stepOf js times s .state) (stepOf js times other .state)
   -- The state's completion of a complete job is that of the run.
   pub state-completions : (n u : ℕ) → complete times (numberAt (after (tableOf js) times n .work)) u ≡ true
