@@ -1,5 +1,5 @@
-/* Cudlomer: how late each job of a set can be complete, whether all deadlines are met, whether a further chain may come aboard, and what runs at
- * each tick.
+/* Cudlomer: how late each job of a set can be complete and whose jobs delay it, whether all deadlines are met, whether a further chain may come
+ * aboard, and what runs at each tick.
  *
  * A set is an array of jobs, chain by chain: chains count from 1, jobs from 1 within their chain. It comes from the text of a table, the header
  * line `chain,job,release,priority,least,most,deadline` and then a line for each job, each line ended by CR LF, which the last may lack; or a
@@ -29,12 +29,14 @@ extern "C" {
 #endif
 
 /* The greatest values. A buffer of CUDLOMER_MAX_TEXT bytes is enough for every bounds text, trace text and text of a table, one of
- * CUDLOMER_MAX_WAVEFORM bytes for every waveform, and CUDLOMER_MAX_ROWS rows for every trace. */
+ * CUDLOMER_MAX_WAVEFORM bytes for every waveform, CUDLOMER_MAX_ROWS rows for every trace, and CUDLOMER_MAX_BLOCKS numbers for the blocks of every
+ * set. */
 #define CUDLOMER_MAX_JOBS 64
 #define CUDLOMER_MAX_CHAINS 16
 #define CUDLOMER_MAX_TEXT 4096
 #define CUDLOMER_MAX_WAVEFORM (128 * CUDLOMER_MAX_JOBS)
 #define CUDLOMER_MAX_ROWS (2 * CUDLOMER_MAX_JOBS)
+#define CUDLOMER_MAX_BLOCKS (CUDLOMER_MAX_JOBS * (2 * CUDLOMER_MAX_CHAINS + 1))
 #define CUDLOMER_MAX_RELEASE UINT64_C(1000000000)
 #define CUDLOMER_MAX_PRIORITY UINT64_C(255)
 #define CUDLOMER_MAX_TIME UINT64_C(1000000) /* of least and most */
@@ -87,6 +89,12 @@ struct cudlomer_row {
     uint64_t chain, job, from, to;
 };
 
+/* A block of a chain by the numbers of its first and its last job, both 0 where there is none: consecutive jobs, each urgent enough to delay another
+ * job, and no longer run of such jobs has them. */
+struct cudlomer_block {
+    uint64_t first, last;
+};
+
 /* How many numbers so many structs are. */
 #define CUDLOMER_NUMBERS(type, count) ((count) * (sizeof(struct type) / sizeof(uint64_t)))
 
@@ -137,6 +145,7 @@ int64_t cudlomer_rounds(const uint8_t *text, size_t text_length);
 int64_t cudlomer_set_read(const uint8_t *text, size_t text_length, uint64_t *jobs, size_t jobs_length);
 int64_t cudlomer_set_write(const uint64_t *jobs, size_t jobs_length, uint8_t *out, size_t out_length);
 int64_t cudlomer_set_bounds(const uint64_t *jobs, size_t jobs_length, uint64_t algorithm, uint64_t *out, size_t out_length);
+int64_t cudlomer_set_blocks(const uint64_t *jobs, size_t jobs_length, uint64_t algorithm, uint64_t *out, size_t out_length);
 int64_t cudlomer_set_verdict(const uint64_t *jobs, size_t jobs_length, uint64_t algorithm);
 int64_t cudlomer_set_rounds(const uint64_t *jobs, size_t jobs_length);
 int64_t cudlomer_set_admit(uint64_t *jobs, size_t jobs_length, uint64_t count, const uint64_t *chain, size_t chain_length, uint64_t algorithm);
@@ -170,6 +179,37 @@ static inline int64_t cudlomer_jobs_write(const struct cudlomer_job *jobs, size_
 static inline int64_t cudlomer_jobs_bounds(const struct cudlomer_job *jobs, size_t count, uint64_t algorithm, uint64_t *bounds, size_t room)
 {
     return cudlomer_set_bounds((const uint64_t *)jobs, CUDLOMER_NUMBERS(cudlomer_job, count), algorithm, bounds, room);
+}
+
+/* Writes what the bound of each job by the algorithm comes from, for the two functions below: the number of the job from which its sum begins, by
+ * ERT the job itself; then for each chain, from 1 on, the first and the last job of the block that delays it, of those with the largest sum the
+ * earliest, 0 and 0 where the chain has none and for its own. By ITR a block is named whole, though only the jobs are added whose spans overlap.
+ * Answers how many numbers were written: for each job one, and two for each chain. Refuses with 4 to 7, with 10, then with 9 where there is not
+ * room for all. */
+static inline int64_t cudlomer_jobs_blocks(const struct cudlomer_job *jobs, size_t count, uint64_t algorithm, uint64_t *blocks, size_t room)
+{
+    return cudlomer_set_blocks((const uint64_t *)jobs, CUDLOMER_NUMBERS(cudlomer_job, count), algorithm, blocks, room);
+}
+
+/* The number of the job from which the sum of a bound begins, of the job at a place from 0 on, where so many numbers were written for `count`
+ * jobs; 0 where there is no such place. */
+static inline uint64_t cudlomer_blocks_from(const uint64_t *blocks, size_t written, size_t count, size_t place)
+{
+    size_t each = count == 0 ? 0 : written / count;
+    return place < count && each > 0 ? blocks[place * each] : 0;
+}
+
+/* The block of a chain that delays the job at a place from 0 on, where so many numbers were written for `count` jobs; none where there is no such
+ * place or chain. */
+static inline struct cudlomer_block cudlomer_blocks_of(const uint64_t *blocks, size_t written, size_t count, size_t place, uint64_t chain)
+{
+    struct cudlomer_block block = { 0, 0 };
+    size_t each = count == 0 ? 0 : written / count;
+    if (place < count && chain > 0 && chain <= each / 2) {
+        block.first = blocks[place * each + 2 * chain - 1];
+        block.last = blocks[place * each + 2 * chain];
+    }
+    return block;
 }
 
 /* Answers 1 where each job's bound by the algorithm is at or before its deadline, and 0 where one is not. Refuses with 4 to 7, then 10. */

@@ -9,7 +9,7 @@
 #include <string.h>
 #include <sys/mman.h>
 
-enum { PAGE = 4096, ROOM = 2 * PAGE, FILL = 0xa5 };
+enum { PAGE = 4096, ROOM = 5 * PAGE, FILL = 0xa5 };
 enum place { ON_THE_HEAP, AFTER_A_WALL, BEFORE_A_WALL, PLACES };
 enum role { FIRST, SECOND, BUFFER, ROLES };
 

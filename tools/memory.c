@@ -12,6 +12,7 @@ static void check_nothing(void)
     count(cudlomer_bounds(NULL, 0, NULL, 0) == -2 && cudlomer_trace(NULL, 0, NULL, 0) == -2, "no text and no buffer");
     count(cudlomer_set_read(NULL, 0, NULL, 0) == -2 && cudlomer_set_write(NULL, 0, NULL, 0) == -7, "no text and no set");
     count(cudlomer_set_bounds(NULL, 0, 3, NULL, 0) == -7 && cudlomer_set_verdict(NULL, 0, 3) == -7, "bounds and verdict of no set");
+    count(cudlomer_set_blocks(NULL, 0, 3, NULL, 0) == -7, "blocks of no set");
     count(cudlomer_set_rounds(NULL, 0) == -7 && cudlomer_set_admit(NULL, 0, 0, NULL, 0, 3) == -7, "rounds of no set, and no chain");
     count(cudlomer_set_tick(NULL, 0, NULL, 0, NULL, 0) == -7 && cudlomer_set_run(NULL, 0, NULL, 0, NULL, 0) == -7, "a run of no set");
     count(cudlomer_set_trace(NULL, 0, NULL, 0, NULL, 0) == -7 && cudlomer_set_waveform(NULL, 0, NULL, 0, NULL, 0) == -7, "a trace of no set");

@@ -20,6 +20,11 @@ static int64_t set_bounds(struct ranges set, void *out, size_t size)
     return cudlomer_set_bounds(set.first, set.first_size / WORD, algorithm, out, size / WORD);
 }
 
+static int64_t set_blocks(struct ranges set, void *out, size_t size)
+{
+    return cudlomer_set_blocks(set.first, set.first_size / WORD, algorithm, out, size / WORD);
+}
+
 static int64_t set_admit(struct ranges chain, void *jobs, size_t size)
 {
     return cudlomer_set_admit(jobs, size / WORD, held, chain.first, chain.first_size / WORD, algorithm);
@@ -45,7 +50,7 @@ static int64_t set_waveform(struct ranges timed, void *out, size_t size)
     return cudlomer_set_waveform(timed.first, timed.first_size / WORD, timed.second, timed.second_size / WORD, out, size);
 }
 
-/* The text, the bounds, and the verdict and the rounds, which write nothing. */
+/* The text, the bounds, the blocks, and the verdict and the rounds, which write nothing. */
 static void check_figures(const uint64_t *numbers, size_t length)
 {
     struct ranges set = { numbers, NULL, length * WORD, 0 };
@@ -54,6 +59,8 @@ static void check_figures(const uint64_t *numbers, size_t length)
     for (algorithm = 0; algorithm <= 4; algorithm++) {
         int64_t bounds = call_with_room(set_bounds, set);
         check_sizes("set_bounds", set_bounds, set, WORD, bounds < 0 ? 40 : (size_t)bounds * WORD, bounds);
+        int64_t blocks = call_with_room(set_blocks, set);
+        check_sizes("set_blocks", set_blocks, set, WORD, blocks < 0 ? 40 : (size_t)blocks * WORD, blocks);
         uint64_t *jobs = lend(FIRST, numbers, length * WORD);
         int64_t verdict = cudlomer_set_verdict(jobs, length, algorithm), rounds = cudlomer_set_rounds(jobs, length);
         count(bounds < 0 ? verdict == bounds : verdict == 0 || verdict == 1, "set_verdict");

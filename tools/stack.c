@@ -11,7 +11,7 @@ static uint8_t text[CUDLOMER_MAX_TEXT + 1], out[CUDLOMER_MAX_WAVEFORM], stack[ST
 static struct cudlomer_job jobs[CUDLOMER_MAX_JOBS], held[CUDLOMER_MAX_JOBS];
 static struct cudlomer_row rows[CUDLOMER_MAX_ROWS];
 static struct cudlomer_state state;
-static uint64_t times[CUDLOMER_MAX_JOBS], figures[CUDLOMER_MAX_JOBS];
+static uint64_t times[CUDLOMER_MAX_JOBS], figures[CUDLOMER_MAX_JOBS], blocks[CUDLOMER_MAX_BLOCKS];
 static size_t length, count, held_count;
 static int64_t answer;
 static ucontext_t here, there;
@@ -23,6 +23,10 @@ static void rounds(void) { answer = cudlomer_rounds(text, length); }
 static void set_read(void) { answer = cudlomer_jobs_read(text, length, jobs, CUDLOMER_MAX_JOBS); }
 static void set_write(void) { answer = cudlomer_jobs_write(jobs, count, out, sizeof out); }
 static void set_bounds(void) { answer = cudlomer_jobs_bounds(jobs, count, CUDLOMER_ITR, figures, CUDLOMER_MAX_JOBS); }
+static void set_blocks(void) /* by CJA, which takes more here than ERT and ITR */
+{
+    answer = cudlomer_jobs_blocks(jobs, count, CUDLOMER_CJA, blocks, CUDLOMER_MAX_BLOCKS);
+}
 static void set_verdict(void) { answer = cudlomer_jobs_verdict(jobs, count, CUDLOMER_ITR); }
 static void set_rounds(void) { answer = cudlomer_jobs_rounds(jobs, count); }
 static void set_admit(void)
@@ -39,9 +43,9 @@ static const struct function {
     void (*call)(void);
 } functions[] = {
     { "bounds", bounds },           { "trace", trace },           { "verdict", verdict },         { "rounds", rounds },
-    { "set_read", set_read },       { "set_write", set_write },   { "set_bounds", set_bounds },   { "set_verdict", set_verdict },
-    { "set_rounds", set_rounds },   { "set_admit", set_admit },   { "set_tick", set_tick },       { "set_run", set_run },
-    { "set_trace", set_trace },     { "set_waveform", set_waveform },
+    { "set_read", set_read },       { "set_write", set_write },   { "set_bounds", set_bounds },   { "set_blocks", set_blocks },
+    { "set_verdict", set_verdict }, { "set_rounds", set_rounds }, { "set_admit", set_admit },     { "set_tick", set_tick },
+    { "set_run", set_run },         { "set_trace", set_trace },   { "set_waveform", set_waveform },
 };
 
 enum { FUNCTIONS = sizeof functions / sizeof functions[0] };

@@ -21,7 +21,8 @@ use Rattle.jobs.specs.Checks.{checkOf}
 use Rattle.jobs.specs.Jobs.{jobsOf, jobAt}
 use Rattle.jobs.proofs.Sets.{length-jobs}
 use Rattle.theory.specs.Bounds.{meets}
-use Rattle.completion.specs.declared.answer.Bounds.{Bounds}
+use Rattle.completion.specs.declared.answer.BoundsAlone.{BoundsAlone}
+use Rattle.completion.specs.Answers.{boundsAlone}
 use Rattle.analysis.specs.declared.answer.Verdict.{Verdict}
 use Rattle.analysis.specs.Answers.{boundsBy, onBounds, boundsOf, verdictBy, verdictOf}
 use Rattle.analysis.proofs.Algorithms.{checkBy, eachBy}
@@ -59,7 +60,7 @@ by-answer set Passed (some bounds) = ap verdictIs (meets-padded set bounds)
 by-answer set Passed none = refl
 by-answer set (Refused refusal) by = refl
 
-pub verdict-is : (set : JobSet) (algorithm : ℕ) (answer : Bounds) (verdict : Verdict) → answer ≡ boundsOf set algorithm
+pub verdict-is : (set : JobSet) (algorithm : ℕ) (answer : BoundsAlone) (verdict : Verdict) → answer ≡ boundsAlone (boundsOf set algorithm)
     → verdict ≡ onPass (answer .check) Verdict.Refused (verdictIs (meets (jobsOf set) (answer .bounds))) → verdict ≡ verdictOf set algorithm
 unfolding boundsOf verdictOf verdictBy
 verdict-is set algorithm answer verdict e v = rw e at v ∙ by-answer set (checkOf (jobsOf set)) (boundsBy (jobsOf set) algorithm)

@@ -1,9 +1,10 @@
--- What follows from the bounds; unused places are 0. Document 01, "Bounds", the refusals of a set and of admission, and number 10. Assumes nothing.
+-- What follows from the bounds; unused places are 0. Document 01, "Bounds", the refusals of a set and of admission, number 10, and document 02, R-3.
+-- Assumes nothing.
 use Rattle.laws.specs.Words.{ℕ, cond, Option, none, some, List, [], eqb, pos}
 use Rattle.jobs.specs.declared.{job.Job.Job, set.JobSet.JobSet, refusal.Refusal.Refusal, refusal.Check.Check}
 use Rattle.jobs.specs.{Refusals.onPass, Refusals.andThen, Jobs.jobsOf, Jobs.setOf, Checks.checkOf, Joins.withChain, Joins.joinCheck}
-use Rattle.theory.specs.{Table.tableOf, Bounds.ert, Bounds.cja, Bounds.itr, Bounds.slacks, Bounds.meets}
-use Rattle.completion.specs.{declared.answer.Bounds.Bounds, Answers.eachJob, Answers.ertOf, Answers.cjaOf, Answers.itrOf}
+use Rattle.theory.specs.{Table.tableOf, Bounds.ert, Bounds.cja, Bounds.itr, Bounds.slacks, Bounds.meets, Delays.ertDelay, Delays.cjaDelay, Delays.itrDelay}
+use Rattle.completion.specs.{declared.answer.Bounds.Bounds, declared.answer.Delay.Delay, Delays.noDelay, Delays.delaysNamed, Answers.eachJob, Answers.ertOf, Answers.cjaOf, Answers.itrOf}
 use Rattle.analysis.specs.declared.{answer.Slacks.Slacks, answer.Figures.Figures, answer.Verdict.Verdict, answer.Admission.Admission}
 
 -- Each job's deadline less its ITR bound.
@@ -30,6 +31,14 @@ boundsBy js algorithm =
     (cond (eqb algorithm 3) (some (itr (tableOf js) .bounds))
     none))
 
+-- What the bounds of accepted jobs come from by the same algorithms, and nothing by another.
+unfoldable pub delaysBy : List Job → ℕ → List Delay
+delaysBy js algorithm =
+    cond (eqb algorithm 1) (delaysNamed js (ertDelay (tableOf js)))
+    (cond (eqb algorithm 2) (delaysNamed js (cjaDelay (tableOf js)))
+    (cond (eqb algorithm 3) (delaysNamed js (itrDelay (tableOf js)))
+    []))
+
 -- What is made of the bounds by an algorithm, or of number 10 where it has none.
 abbrev pub onBounds : {A : Type 0} → Option (List ℕ) → (Refusal → A) → (List ℕ → A) → A
 onBounds none otherwise answer = otherwise Refusal.UnknownAlgorithm
@@ -41,7 +50,11 @@ boundsOf set algorithm =
     let js = jobsOf set in
     let by = boundsBy js algorithm in
     let check = andThen (checkOf js) (onBounds by Check.Refused (λ bounds. Check.Passed)) in
-    record { check = check; bounds = eachJob 0 check (onBounds by (λ refusal. []) (λ bounds. bounds)) }
+    record {
+      check = check;
+      bounds = eachJob 0 check (onBounds by (λ refusal. []) (λ bounds. bounds));
+      delays = eachJob noDelay check (delaysBy js algorithm);
+    }
 
 -- The verdict on accepted jobs by an algorithm: yes where each bound is at or before its job's deadline.
 unfoldable pub verdictBy : List Job → ℕ → Verdict

@@ -3,9 +3,9 @@ ghost use Rattle.laws.specs.Words.{_≡_};
 ghost use Rattle.analysis.specs.Answers.{figuresOf};
 use crate::answer::Figures;
 use crate::slack::slacks_by;
-use completion::cja::cja;
-use completion::ert::ert;
-use completion::itr::itr;
+use completion::cja::cja_alone;
+use completion::ert::ert_alone;
+use completion::itr::itr_alone;
 use jobs::refusal::Check;
 use jobs::set::JobSet;
 
@@ -13,7 +13,7 @@ use jobs::set::JobSet;
 pub fn figures(set: JobSet) -> Figures
     ensures { λ r. ⌜ r ≡ figuresOf set ⌝ }
 {
-    let answer = itr(set);
+    let answer = itr_alone(set);
     let check = answer.check;
     if let Check::Refused(refusal) = check {
         return Figures {
@@ -27,9 +27,9 @@ pub fn figures(set: JobSet) -> Figures
     }
     let by_itr = answer.bounds;
     let slacks = slacks_by(set, by_itr);
-    let ert_answer = ert(set);
+    let ert_answer = ert_alone(set);
     let by_ert = ert_answer.bounds;
-    let cja_answer = cja(set);
+    let cja_answer = cja_alone(set);
     let by_cja = cja_answer.bounds;
     Figures {
         check: Check::Passed,

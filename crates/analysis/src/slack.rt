@@ -5,7 +5,7 @@ ghost use Rattle.theory.specs.Table.{tableOf};
 ghost use Rattle.theory.specs.Bounds.{boundLimit, itr as Theory·itr, slack as Theory·slack, slacks as Theory·slacks};
 ghost use Rattle.analysis.specs.Answers.{slacksOf};
 use crate::answer::Slacks;
-use completion::itr::itr;
+use completion::itr::itr_alone;
 use jobs::refusal::Check;
 use jobs::set::JobSet;
 
@@ -40,7 +40,7 @@ pub(crate) fn slacks_by(set: JobSet, bounds: [u64; JobSet::MAX_JOBS]) -> [i64; J
 pub fn slacks(set: JobSet) -> Slacks
     ensures { λ r. ⌜ r ≡ slacksOf set ⌝ }
 {
-    let answer = itr(set);
+    let answer = itr_alone(set);
     let check = answer.check;
     if let Check::Refused(refusal) = check {
         return Slacks {

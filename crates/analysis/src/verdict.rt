@@ -4,7 +4,7 @@ ghost use Rattle.jobs.specs.{Refusals.onPass, Jobs.jobsOf, Checks.checkOf};
 ghost use Rattle.theory.specs.Bounds.{meets};
 ghost use Rattle.analysis.specs.Answers.{verdictOf};
 use crate::answer::Verdict;
-use crate::bounds::bounds;
+use crate::bounds::bounds_alone;
 use jobs::refusal::Check;
 use jobs::set::JobSet;
 
@@ -32,7 +32,7 @@ fn verdict_by(set: JobSet, check: Check, bounds: [u64; JobSet::MAX_JOBS]) -> Ver
 pub fn verdict(set: JobSet, algorithm: u64) -> Verdict
     ensures { λ r. ⌜ r ≡ verdictOf set algorithm ⌝ }
 {
-    let answer = bounds(set, algorithm);
+    let answer = bounds_alone(set, algorithm);
     let passed = answer.check;
     let each = answer.bounds;
     verdict_by(set, passed, each)

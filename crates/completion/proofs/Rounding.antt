@@ -22,7 +22,7 @@ use Rattle.theory.specs.Bounds.{cjaWith, overlap, round, after, Answer, roundLi
 use Rattle.theory.specs.Claims.{Repeats, Settled}
 use Rattle.theory.proofs.Rules.{length-after}
 use Rattle.theory.proofs.Settling.{itr-settled, rounds-limit, settled-unique}
-use Rattle.completion.specs.declared.answer.Itr.{Itr}
+use Rattle.completion.specs.declared.answer.ItrAlone.{ItrAlone}
 use Rattle.theory.proofs.Columns.{Fit}
 
 limit-small : (t : Table) → t .count ≤ maxJobs → roundLimit t ≤ maxJobs * maxJobs * maxJobs + 2
@@ -35,13 +35,15 @@ limit-small t few =
     omega arith
 
 -- ---- a round reads bounds as they are padded
-pub round-padded : (t : Table) (b : List ℕ) → round t (padded maxJobs 0 b) ≡ round t b
-unfolding round overlap
-round-padded t b =
-    ap (cjaWith t)
-    (fun-ext (λ k. fun-ext (λ j. fun-ext (λ u. rw (getD-padded maxJobs 0 b u, getD-padded maxJobs 0 b j)))))
+pub overlap-padded : (t : Table) (b : List ℕ) → overlap t (padded maxJobs 0 b) ≡ overlap t b
+unfolding overlap
+overlap-padded t b = fun-ext (λ k. fun-ext (λ j. fun-ext (λ u. rw (getD-padded maxJobs 0 b u, getD-padded maxJobs 0 b j))))
 
-abbrev pub itrPassed : Answer → Itr
+pub round-padded : (t : Table) (b : List ℕ) → round t (padded maxJobs 0 b) ≡ round t b
+unfolding round
+round-padded t b = ap (cjaWith t) (overlap-padded t b)
+
+abbrev pub itrPassed : Answer → ItrAlone
 itrPassed answer = record { check = Passed; bounds = padded maxJobs 0 (answer .bounds); rounds = answer .rounds }
 
 pub record Rounding (t : Table) (bounds : List ℕ) (n : ℕ) : Type 0 where
@@ -91,7 +93,7 @@ module _ (t : Table) where
             moved = λ m l r. by-last m (suc n) l (λ q. moves s (subst (Repeats t) q r)) (λ ml. h .moved m ml r);
           })
 
-      pub rounding-last : sameUpTo (t .count) next bounds ≡ true → _≡_ {A = Itr} (record { check = Passed; bounds = next; rounds = n + 1 }) (itrPassed (itr t))
+      pub rounding-last : sameUpTo (t .count) next bounds ≡ true → _≡_ {A = ItrAlone} (record { check = Passed; bounds = next; rounds = n + 1 }) (itrPassed (itr t))
       rounding-last s =
           let answer : Answer = record { bounds = after t (suc n); rounds = suc n } in
           let settled : Settled t answer = record { made = refl; last = repeats s; first = λ m l r. h .moved m l r } in

@@ -1,1 +1,3 @@
+pub mod Delays
 pub mod Answers
+pub mod Claims

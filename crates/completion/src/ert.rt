@@ -2,9 +2,10 @@
 ghost use Rattle.laws.specs.Words.{_≡_, padded};
 ghost use Rattle.jobs.specs.Limits.{maxJobs};
 ghost use Rattle.theory.specs.Bounds.{ert as Theory·ert};
-ghost use Rattle.completion.specs.Answers.{ertOf};
+ghost use Rattle.completion.specs.Answers.{ertOf, boundsAlone};
 ghost use Rattle.theory.proofs.{Columns.lent, Columns.Fit, Endings.Ended};
 use crate::answer::Bounds;
+use crate::answer::BoundsAlone;
 use crate::columns::CHAIN;
 use crate::columns::Columns;
 use crate::columns::LATEST;
@@ -49,18 +50,18 @@ fn by_rule<'a>(count: usize, columns: &'a Columns) -> [u64; JobSet::MAX_JOBS]
     bounds
 }
 
-// The ERT bounds of all jobs.
-pub fn ert(set: JobSet) -> Bounds
-    ensures { λ r. ⌜ r ≡ ertOf set ⌝ }
+// The ERT bounds of all jobs alone.
+pub fn ert_alone(set: JobSet) -> BoundsAlone
+    ensures { λ r. ⌜ r ≡ boundsAlone (ertOf set) ⌝ }
 {
     if let Check::Refused(refusal) = check(set) {
-        return Bounds {
+        return BoundsAlone {
             check: Check::Refused(refusal),
             bounds: [0u64; JobSet::MAX_JOBS],
         };
     }
     let columns = columns_of(set);
-    Bounds {
+    BoundsAlone {
         check: Check::Passed,
         bounds: by_rule(set.count, &columns),
     }

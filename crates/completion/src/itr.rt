@@ -2,9 +2,9 @@
 ghost use Rattle.laws.specs.Words.{_≡_, _≤_, sameUpTo, padded};
 ghost use Rattle.jobs.specs.Limits.{maxJobs};
 ghost use Rattle.theory.specs.Bounds.{itrStart, itr as Theory·itr};
-ghost use Rattle.completion.specs.Answers.{itrOf};
+ghost use Rattle.completion.specs.Answers.{itrOf, itrAlone};
 ghost use Rattle.theory.proofs.{Columns.lent, Columns.Fit, Endings.Ended};
-use crate::answer::Itr;
+use crate::answer::ItrAlone;
 use crate::columns::CHAIN;
 use crate::columns::Columns;
 use crate::columns::LATEST;
@@ -56,7 +56,7 @@ fn same_bounds<'a, 'b>(
 }
 
 // Rounds until one changes no bound; that one counts.
-fn settle<'a>(count: usize, columns: &'a Columns) -> Itr
+fn settle<'a>(count: usize, columns: &'a Columns) -> ItrAlone
     requires { ⌜ Fit (lent count (now columns)) × Ended count (now columns) ⌝ }
     ensures { λ r. let answer = Theory·itr (lent count (now (columns .entry))) in ⌜ r ≡ record { check = Check.Passed; bounds = padded maxJobs 0 (answer .bounds); rounds = answer .rounds } ⌝ }
 {
@@ -67,7 +67,7 @@ fn settle<'a>(count: usize, columns: &'a Columns) -> Itr
         round(count, columns, &bounds, &mut next);
         let taken = rounds + 1;
         if same_bounds(count, &next, &bounds) {
-            return Itr {
+            return ItrAlone {
                 check: Check::Passed,
                 bounds: next,
                 rounds: taken,
@@ -78,12 +78,12 @@ fn settle<'a>(count: usize, columns: &'a Columns) -> Itr
     }
 }
 
-// The ITR bounds of all jobs, and the number of rounds.
-pub fn itr(set: JobSet) -> Itr
-    ensures { λ r. ⌜ r ≡ itrOf set ⌝ }
+// The ITR bounds of all jobs and the number of rounds alone.
+pub fn itr_alone(set: JobSet) -> ItrAlone
+    ensures { λ r. ⌜ r ≡ itrAlone (itrOf set) ⌝ }
 {
     if let Check::Refused(refusal) = check(set) {
-        return Itr {
+        return ItrAlone {
             check: Check::Refused(refusal),
             bounds: [0u64; JobSet::MAX_JOBS],
             rounds: 0,

@@ -27,9 +27,9 @@ use Rattle.theory.specs.Bounds.{cja, itr}
 use Rattle.theory.proofs.Rules.{always, length-ert, length-cja, length-after}
 use Rattle.theory.proofs.Settling.{itr-settled}
 use Rattle.theory.proofs.Claims.{claims}
-use Rattle.completion.specs.declared.answer.Bounds.{Bounds}
-use Rattle.completion.specs.declared.answer.Itr.{Itr}
-use Rattle.completion.specs.Answers.{itrOf}
+use Rattle.completion.specs.declared.answer.BoundsAlone.{BoundsAlone}
+use Rattle.completion.specs.declared.answer.ItrAlone.{ItrAlone}
+use Rattle.completion.specs.Answers.{itrOf, boundsAlone, itrAlone}
 use Rattle.analysis.specs.Answers.{boundsBy, onBounds, boundsOf}
 use Rattle.analysis.proofs.Algorithms.{checkBy, eachBy}
 use Rattle.numbers.specs.Numbers.{roomCheck}
@@ -40,7 +40,7 @@ use Rattle.cudlomer.specs.Sets.{boundsCode, boundsInto, roundsCode}
 same-code : (r refusal : Refusal) → Refused r ≡ Refused refusal → refusalCode refusal ≡ refusalCode r
 same-code r refusal e = sym (ap (λ (k : Check). onPass k refusalCode (pos 0)) e)
 
-refused-by : (k : Check) (by : Option (List ℕ)) (refusal : Refusal) (memory : List ℕ) (code : List ℕ → ℤ) (after : List ℕ → List ℕ) → checkBy k by ≡ Refused refusal
+pub refused-by : (k : Check) (by : Option (List ℕ)) (refusal : Refusal) (memory : List ℕ) (code : List ℕ → ℤ) (after : List ℕ → List ℕ) → checkBy k by ≡ Refused refusal
     → (refusalCode refusal ≡ onPass k refusalCode (onBounds by refusalCode code)) × (memory ≡ onPass k (λ r. memory) (onBounds by (λ r. memory) after))
 refused-by Passed (some bounds) refusal memory code after e = let z : _≡_ {A = ℕ} 0 1 = cc in absurd (omega arith)
 refused-by Passed none refusal memory code after e = (same-code _ refusal e, refl)
@@ -60,28 +60,28 @@ length-by js algorithm bounds e =
     (λ s. sym (ap size (rw (p, q, s) at e)))))
 
 -- the first places of an array that pads a list of as many
-front-padded : (n : ℕ) (bounds : List ℕ) → length bounds ≡ n → take n (padded maxJobs 0 bounds) ≡ bounds
-front-padded n bounds e = rw (← e) (take-append-seam bounds (replicate (maxJobs - length bounds) 0))
+pub front-padded : {A : Type 0} (d : A) (n : ℕ) (xs : List A) → length xs ≡ n → take n (padded maxJobs d xs) ≡ xs
+front-padded d n xs e = rw (← e) (take-append-seam xs (replicate (maxJobs - length xs) d))
 
-module _ (set : JobSet) (algorithm : ℕ) (answer : Bounds) (e : answer ≡ boundsOf set algorithm) where
-  check-is : answer .check ≡ checkBy (checkOf (jobsOf set)) (boundsBy (jobsOf set) algorithm)
+module _ (set : JobSet) (algorithm : ℕ) (answer : BoundsAlone) (e : answer ≡ boundsAlone (boundsOf set algorithm)) where
+  pub check-is : answer .check ≡ checkBy (checkOf (jobsOf set)) (boundsBy (jobsOf set) algorithm)
   unfolding boundsOf
-  check-is = ap (λ (a : Bounds). a .check) e
+  check-is = ap (λ (a : BoundsAlone). a .check) e
 
   each-is : answer .bounds ≡ eachBy (checkOf (jobsOf set)) (boundsBy (jobsOf set) algorithm)
   unfolding boundsOf
-  each-is = ap (λ (a : Bounds). a .bounds) e
+  each-is = ap (λ (a : BoundsAlone). a .bounds) e
 
   pub bounds-refused : (refusal : Refusal) (memory : List ℕ) → answer .check ≡ Refused refusal → (refusalCode refusal ≡ boundsCode (jobsOf set) algorithm memory) × (memory ≡ boundsInto (jobsOf set) algorithm memory)
   unfolding boundsCode boundsInto
   bounds-refused refusal memory told = refused-by (checkOf (jobsOf set)) (boundsBy (jobsOf set) algorithm) refusal memory _ _ (sym check-is ∙ told)
 
   -- an answer that passes holds the bounds by the algorithm
-  record Found : Type 0 where
-    bounds : List ℕ
-    passed : checkOf (jobsOf set) ≡ Passed
-    by : boundsBy (jobsOf set) algorithm ≡ some bounds
-    each : answer .bounds ≡ padded maxJobs 0 bounds
+  pub record Found : Type 0 where
+    pub bounds : List ℕ
+    pub passed : checkOf (jobsOf set) ≡ Passed
+    pub by : boundsBy (jobsOf set) algorithm ≡ some bounds
+    pub each : answer .bounds ≡ padded maxJobs 0 bounds
 
   found-by : (k : Check) (by : Option (List ℕ)) → checkOf (jobsOf set) ≡ k → boundsBy (jobsOf set) algorithm ≡ by → checkBy k by ≡ Passed → answer .bounds ≡ eachBy k by → Found
   found-by Passed (some bounds) p q told h = record { bounds = bounds; passed = p; by = q; each = h }
@@ -89,7 +89,7 @@ module _ (set : JobSet) (algorithm : ℕ) (answer : Bounds) (e : answer ≡ boun
   found-by (Refused r) by p q told h = let z : _≡_ {A = ℕ} 0 1 = cc in absurd (omega arith)
 
   module _ (told : answer .check ≡ Passed) where
-    found : Found
+    pub found : Found
     found = found-by (checkOf (jobsOf set)) (boundsBy (jobsOf set) algorithm) refl refl (sym check-is ∙ told) each-is
 
     pub bounds-few : set .count ≤ maxJobs
@@ -108,7 +108,7 @@ module _ (set : JobSet) (algorithm : ℕ) (answer : Bounds) (e : answer ≡ boun
     bounds-done check memory after put =
         let f = found in
         let size : length (f .bounds) ≡ set .count = length-by (jobsOf set) algorithm (f .bounds) (f .by) ∙ length-jobs set in
-        let front : take (set .count) (answer .bounds) ≡ f .bounds = ap (take (set .count)) (f .each) ∙ front-padded (set .count) (f .bounds) size in
+        let front : take (set .count) (answer .bounds) ≡ f .bounds = ap (take (set .count)) (f .each) ∙ front-padded 0 (set .count) (f .bounds) size in
         rw (f .passed, f .by, size) (ap (λ (k : Check). checkedCode k (set .count)) (rw (front, size) at (put .0)), rw front at (put .1))
 
 -- ---- rounds
@@ -120,7 +120,7 @@ code-by : (k : Check) (n : ℕ) → checkedCode k (onPass k (λ refusal. 0) n) �
 code-by Passed n = refl
 code-by (Refused r) n = refl
 
-module _ (set : JobSet) (answer : Itr) (e : answer ≡ itrOf set) where
+module _ (set : JobSet) (answer : ItrAlone) (e : answer ≡ itrAlone (itrOf set)) where
   pub rounds-few : answer .rounds ≤ maxJobs
   unfolding itrOf
   rounds-few = rw e (rounds-by (checkOf (jobsOf set)) (jobsOf set) refl)

@@ -1,5 +1,6 @@
 pub mod Negation
 pub mod Bounding
+pub mod Blocking
 pub mod Admitting
 pub mod Ticking
 pub mod Running

@@ -2,13 +2,13 @@
 -- Numbers in memory are a set or a state as crates/numbers/specs says. Assumes nothing.
 use Rattle.laws.specs.Words.{ℕ, List, ℤ, pos, length, take, written}
 use Rattle.jobs.specs.declared.{job.Job.Job, refusal.Check.Check}
-use Rattle.jobs.specs.{Refusals.onPass, Refusals.andThen, Jobs.jobsOf, Checks.checkOf}
+use Rattle.jobs.specs.{Refusals.onPass, Refusals.andThen, Jobs.chainsOf, Jobs.jobsOf, Checks.checkOf}
 use Rattle.table.specs.Tables.{onTable}
 use Rattle.theory.specs.{Table.tableOf, Bounds.itr}
 use Rattle.analysis.specs.declared.{answer.Verdict.Verdict, answer.Admission.Admission}
-use Rattle.analysis.specs.Answers.{boundsBy, onBounds, admissionOf}
+use Rattle.analysis.specs.Answers.{boundsBy, delaysBy, onBounds, admissionOf}
 use Rattle.machine.specs.{Ticks.machineCheck, Ticks.stateCheck, Ticks.tickOf, Runs.runOf}
-use Rattle.numbers.specs.Numbers.{setIn, heldSet, stateSize, stateNumbers, stateIn, roomCheck, putCheck, putFrom}
+use Rattle.numbers.specs.Numbers.{setIn, heldSet, stateSize, stateNumbers, stateIn, delaysNumbers, roomCheck, putCheck, putFrom}
 use Rattle.cudlomer.specs.Codes.{refusalCode, checkedCode, tickedCode}
 
 -- The jobs that numbers hold.
@@ -32,6 +32,21 @@ boundsCode js algorithm memory =
 unfoldable pub boundsInto : List Job → ℕ → List ℕ → List ℕ
 boundsInto js algorithm memory =
     onPass (checkOf js) (λ refusal. memory) (onBounds (boundsBy js algorithm) (λ refusal. memory) (λ bounds. written bounds memory))
+
+-- The numbers of what delays each job by an algorithm: the job from which the sum of its bound begins, then the block of each chain.
+abbrev pub blocksBy : List Job → ℕ → List ℕ
+blocksBy js algorithm = delaysNumbers (chainsOf js) (delaysBy js algorithm)
+
+-- How many they are: 4 to 7, then 10, then 9.
+unfoldable pub blocksCode : List Job → ℕ → List ℕ → ℤ
+blocksCode js algorithm memory =
+    let numbers = blocksBy js algorithm in
+    onPass (checkOf js) refusalCode (onBounds (boundsBy js algorithm) refusalCode (λ bounds. checkedCode (roomCheck (length numbers) memory) (length numbers)))
+
+-- Memory after they are written to it.
+unfoldable pub blocksInto : List Job → ℕ → List ℕ → List ℕ
+blocksInto js algorithm memory =
+    onPass (checkOf js) (λ refusal. memory) (onBounds (boundsBy js algorithm) (λ refusal. memory) (λ bounds. written (blocksBy js algorithm) memory))
 
 -- How many rounds ITR takes: 4 to 7 come first.
 unfoldable pub roundsCode : List Job → ℤ

@@ -5,7 +5,7 @@ ghost use Rattle.analysis.specs.Answers.{verdictOf};
 ghost use Rattle.numbers.specs.Numbers.{heldSet, putCheck, putFrom};
 ghost use Rattle.report.specs.Listing.{tableAnswer, tableLeft};
 ghost use Rattle.cudlomer.specs.{Codes.checkedCode, Codes.writtenCode, Codes.verdictCode};
-ghost use Rattle.cudlomer.specs.Sets.{jobsHere, readCode, readInto, boundsCode, boundsInto, roundsCode, admissionHere, admitCode, admitInto};
+ghost use Rattle.cudlomer.specs.Sets.{jobsHere, readCode, readInto, boundsCode, boundsInto, blocksCode, blocksInto, roundsCode, admissionHere, admitCode, admitInto};
 use crate::codes::checked_code;
 use crate::codes::negated;
 use crate::codes::verdict_code;
@@ -13,10 +13,13 @@ use crate::codes::written_code;
 use analysis::admission::admit;
 use analysis::answer::Verdict;
 use analysis::bounds::bounds;
+use analysis::bounds::bounds_alone;
 use analysis::verdict::verdict;
-use completion::itr::itr;
+use completion::itr::itr_alone;
+use jobs::last::last_of;
 use jobs::refusal::Check;
 use jobs::set::JobSet;
+use numbers::delays::put_delays;
 use numbers::put::put;
 use numbers::set::held_set;
 use numbers::set::put_jobs;
@@ -36,7 +39,7 @@ fn put_set(set: JobSet, from: usize, memory: &mut [u64]) -> i64
 pub(crate) fn rounds_of(set: JobSet) -> i64
     ensures { λ r. ⌜ r ≡ roundsCode (jobsOf set) ⌝ }
 {
-    let answer = itr(set);
+    let answer = itr_alone(set);
     let check = answer.check;
     checked_code(check, answer.rounds)
 }
@@ -68,7 +71,7 @@ pub extern "C" fn cudlomer_set_bounds(jobs: &[u64], algorithm: u64, out: &mut [u
     ensures { λ r. let js = jobsHere (now (jobs .entry)) in ⌜ (r ≡ boundsCode js algorithm (now (out .entry))) × (now (out .exit) ≡ boundsInto js algorithm (now (out .entry))) ⌝ }
 {
     let set = held_set(jobs);
-    let answer = bounds(set, algorithm);
+    let answer = bounds_alone(set, algorithm);
     let check = answer.check;
     if let Check::Refused(refusal) = check {
         return negated(refusal);
@@ -76,6 +79,28 @@ pub extern "C" fn cudlomer_set_bounds(jobs: &[u64], algorithm: u64, out: &mut [u
     let each = answer.bounds;
     let count = set.count;
     checked_code(put(&each[..count], out), count as u64)
+}
+
+// Writes what delays each job by 1 ERT, 2 CJA or 3 ITR into out: the number of the job from which its bound's sum begins, and of each chain the first and
+// the last job of its block, 0 and 0 for none and for its own; answers how many numbers there are.
+#[no_mangle]
+pub extern "C" fn cudlomer_set_blocks(jobs: &[u64], algorithm: u64, out: &mut [u64]) -> i64
+    ensures { λ r. let js = jobsHere (now (jobs .entry)) in ⌜ (r ≡ blocksCode js algorithm (now (out .entry))) × (now (out .exit) ≡ blocksInto js algorithm (now (out .entry))) ⌝ }
+{
+    let set = held_set(jobs);
+    let answer = bounds(set, algorithm);
+    let check = answer.check;
+    if let Check::Refused(refusal) = check {
+        return negated(refusal);
+    }
+    let count = set.count;
+    let last = last_of(set);
+    let chains = last.chain as usize;
+    let delays = answer.delays;
+    checked_code(
+        put_delays(delays, count, chains, out),
+        (count * (2 * chains + 1)) as u64,
+    )
 }
 
 // Answers 1 where all deadlines are met by the algorithm 1 ERT, 2 CJA or 3 ITR, and 0 where they are not.

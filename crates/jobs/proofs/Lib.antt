@@ -6,3 +6,4 @@ pub mod Checks
 pub mod Accepted
 pub mod Joins
 pub mod Places
+pub mod Chains

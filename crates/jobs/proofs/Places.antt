@@ -43,6 +43,11 @@ module _ (js : List Job) (ok : Accepted js) where
   code-up i zero h l = absurd (omega arith)
   code-up i (suc k) h l = by-last i k h (λ e. rw e (code-next k l)) (λ m. omega (arith, code-up i k m (omega arith), code-next k l))
 
+  -- the numbers of a chain's jobs go up along the table
+  pub numbers-rise : (i k : ℕ) → i < k → k < length js → jobAt js i .chain ≡ jobAt js k .chain → jobAt js i .job < jobAt js k .job
+  unfolding code
+  numbers-rise i k h l e = omega (arith, code-up i k h l, e)
+
   pub other-job : (u k : ℕ) → u < length js → k < length js → k ≢ u → isJob (jobAt js k) (jobAt js u .chain) (jobAt js u .job) ≡ false
   unfolding code
   other-job u k l m ne =

@@ -1,5 +1,5 @@
 -- Jobs and the sets that hold them. Document 01, "A job table", and "A form for each place". Assumes nothing.
-use Rattle.laws.specs.Words.{ℕ, Bool, _&&_, List, map, eqb, length, getD, firstBelow, tabulate, padded}
+use Rattle.laws.specs.Words.{ℕ, Bool, _&&_, List, map, eqb, length, getD, firstBelow, lastOf, tabulate, padded}
 use Rattle.jobs.specs.{declared.job.Job.Job, declared.set.JobSet.JobSet, Limits.maxJobs}
 
 -- A job by its numbers and values, in the order of a table's columns.
@@ -21,6 +21,10 @@ isJob j chain number = eqb (j .chain) chain && eqb (j .job) number
 -- The place of the job with these numbers, and the number of jobs where there is none.
 unfoldable pub placeIn : List Job → ℕ → ℕ → ℕ
 placeIn js chain number = firstBelow (length js) (λ i. isJob (jobAt js i) chain number)
+
+-- How many chains jobs in order have: the number of the last one's.
+unfoldable pub chainsOf : List Job → ℕ
+chainsOf js = lastOf noJob js .chain
 
 -- The most time of each job, in table order.
 unfoldable pub mostTimes : List Job → List ℕ

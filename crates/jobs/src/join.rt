@@ -1,8 +1,9 @@
 // A further chain joins a set as its highest-numbered one.
-ghost use Rattle.laws.specs.Words.{_≡_, [], _+_, _≤_, lastOf};
-ghost use Rattle.jobs.specs.{Limits.maxJobs, Jobs.noJob, Jobs.jobsOf, Jobs.setOf, Checks.recordsCheck, Joins.renumbered, Joins.joinOf};
+ghost use Rattle.laws.specs.Words.{_≡_, [], _+_, _≤_};
+ghost use Rattle.jobs.specs.{Limits.maxJobs, Jobs.jobsOf, Jobs.setOf, Checks.recordsCheck, Joins.renumbered, Joins.joinOf};
 use crate::check::check_records;
 use crate::job::Job;
+use crate::last::last_of;
 use crate::record::check_record;
 use crate::refusal::Check;
 use crate::refusal::Refusal;
@@ -28,18 +29,6 @@ fn cleared(set: JobSet) -> JobSet
         copy.count = n;
     }
     copy
-}
-
-// The last job of a set, or no job.
-fn last_of(set: JobSet) -> Job
-    requires { ⌜ set .count ≤ maxJobs ⌝ }
-    ensures { λ r. ⌜ r ≡ lastOf noJob (jobsOf set) ⌝ }
-{
-    let count = set.count;
-    if count == 0 {
-        return Job::none();
-    }
-    set.jobs[count - 1]
 }
 
 // A job under another chain and job number.

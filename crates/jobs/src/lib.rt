@@ -2,6 +2,7 @@
 pub mod check;
 pub mod job;
 pub mod join;
+pub mod last;
 pub mod most;
 pub mod place;
 pub mod record;

@@ -1,8 +1,9 @@
--- Sums over places: monotone, equal term by term, one term raised, limited, and counts of places. Assumes nothing.
+-- Sums over places: monotone, equal term by term, one term raised, limited, counts of places, and split. Assumes nothing.
 use Prim.Native.Nat.{ℕ, zero, suc, _+_, _*_, _≤_, _<_}
 use mathlib.Core.Path.{_≡_, refl, ap, subst}
 use mathlib.Core.Logic.{_≢_}
 use native.Mathlib.Omega.{arith}
+use native.Mathlib.Nat.{add-zero, add-suc}
 use lib.Dec.{eqb}
 use borrow.Author.Tests.{eqb-true, eqb-false}
 use Rattle.laws.specs.Words.{sumBelow}
@@ -78,3 +79,21 @@ sum-skip (suc n) f j l z h =
     let last : f n ≡ 0 = subst (λ (i : ℕ). f i ≡ 0) e z in
     omega (arith, sum-const n 1 f (λ i il. h i (omega arith))))
     (λ jl. omega (arith, sum-skip n f j jl z (λ i il. h i (omega arith)), h n (omega arith)))
+
+-- the first terms, and the rest
+pub sum-split : (f : ℕ → ℕ) (n m : ℕ) → sumBelow (n + m) f ≡ sumBelow n f + sumBelow m (λ i. f (n + i))
+unfolding sumBelow
+sum-split f n zero = rw (add-zero n, add-zero (sumBelow n f)) refl
+sum-split f n (suc m) = rw (add-suc n m) (omega (arith, sum-split f n m))
+
+-- terms that are 0 but for those of a window
+pub sum-window : (f : ℕ → ℕ) (first size rest : ℕ) → ((u : ℕ) → u < first → f u ≡ 0) → ((i : ℕ) → i < rest → f (first + (size + i)) ≡ 0)
+    → sumBelow (first + (size + rest)) f ≡ sumBelow size (λ i. f (first + i))
+sum-window f first size rest before behind =
+    omega (
+      arith,
+      sum-split f first (size + rest),
+      sum-split (λ i. f (first + i)) size rest,
+      sum-zero first f before,
+      sum-zero rest (λ i. f (first + (size + i))) behind,
+    )

@@ -40,3 +40,8 @@ unfolding tabulate
 take-tabulate zero i n f = rw (zero-min n) refl
 take-tabulate (suc m) i zero f = rw (min-zero (suc m)) refl
 take-tabulate (suc m) i (suc n) f = rw (suc-min-suc m n) (ap (λ l. f i ∷ l) (take-tabulate m (suc i) n f))
+
+pub tabulate-shift : {A : Type 0} (i n : ℕ) (f : ℕ → A) → tabulate i n (λ k. f (suc k)) ≡ tabulate (suc i) n f
+unfolding tabulate
+tabulate-shift i zero f = refl
+tabulate-shift i (suc n) f = ap (λ l. f (suc i) ∷ l) (tabulate-shift (suc i) n f)

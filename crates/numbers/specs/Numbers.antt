@@ -1,13 +1,15 @@
--- Sets and states as numbers in lent memory. Assumes nothing.
+-- Sets, states and delays as numbers in lent memory. Assumes nothing.
 --   jobNumbers, numbersOf     the numbers of a job, and of jobs one after another
 --   jobIn, setIn, heldSet     the job at a place, the first jobs and all jobs in numbers
 --   stateNumbers              the numbers of a state
 --   columnIn, stateIn         a number for each place of a set, and the state that numbers start with
+--   delayNumbers              the numbers of what delays one job; delaysNumbers of each job
 --   roomCheck, putCheck       number 9 where memory is too short
-use Rattle.laws.specs.Words.{ℕ, _+_, _-_, _*_, _/_, min, List, [], _∷_, _++_, leb, length, drop, numberAt, tabulate, padded, patched}
+use Rattle.laws.specs.Words.{ℕ, _+_, _-_, _*_, _/_, min, List, [], _∷_, _++_, leb, length, take, drop, numberAt, tabulate, padded, patched}
 use Rattle.jobs.specs.declared.{job.Job.Job, set.JobSet.JobSet, refusal.Refusal.Refusal, refusal.Check.Check}
 use Rattle.jobs.specs.{Limits.maxJobs, Refusals.unless, Refusals.onPass, Jobs.job, Jobs.noJob}
 use Rattle.machine.specs.declared.state.State.{State}
+use Rattle.completion.specs.declared.{answer.Block.Block, answer.Delay.Delay}
 
 -- How many numbers a job takes.
 abbrev pub jobSize : ℕ
@@ -55,6 +57,20 @@ columnIn numbers from = tabulate 0 maxJobs (λ i. numberAt numbers (from + i))
 -- The state that numbers start with.
 unfoldable pub stateIn : List ℕ → State
 stateIn numbers = record { time = numberAt numbers 0; work = columnIn numbers 1; completions = columnIn numbers (1 + maxJobs) }
+
+-- The numbers of blocks: the first and the last job of each.
+unfoldable pub blockNumbers : List Block → List ℕ
+blockNumbers [] = []
+blockNumbers (b ∷ bs) = b .first ∷ b .last ∷ blockNumbers bs
+
+-- The numbers of what delays a job, in a set of so many chains: the job from which its bound's sum begins, and the block of each chain.
+abbrev pub delayNumbers : ℕ → Delay → List ℕ
+delayNumbers chains d = d .from ∷ blockNumbers (take chains (d .blocks))
+
+-- The numbers of what delays each job, one job after another.
+unfoldable pub delaysNumbers : ℕ → List Delay → List ℕ
+delaysNumbers chains [] = []
+delaysNumbers chains (d ∷ ds) = delayNumbers chains d ++ delaysNumbers chains ds
 
 -- Number 9, where memory has fewer numbers than are to be written.
 unfoldable pub roomCheck : ℕ → List ℕ → Check

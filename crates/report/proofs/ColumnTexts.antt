@@ -13,8 +13,8 @@ use borrow.Author.Tests.{eq-eqb, ne-eqb}
 use Rattle.laws.proofs.Tests.{by-equal}
 use Rattle.decimal.specs.Digits.{digitCount, decimal, signed}
 use Rattle.texts.proofs.WordDigits.{word-digits}
-use Rattle.report.specs.Texts.{afterCommas}
-use Rattle.report.proofs.Lines.{commas-append}
+use Rattle.texts.specs.Lines.{afterCommas}
+use Rattle.texts.proofs.Lines.{commas-append}
 
 -- numbers as the columns of a line
 abbrev pub columnsText : List ℕ → List ℕ

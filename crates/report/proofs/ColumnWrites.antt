@@ -11,7 +11,7 @@ use Rattle.laws.proofs.Buffers.{Wrote, wrote-none, wrote-one}
 use Rattle.laws.proofs.Pieces.{Made, PiecesWritten, PiecesSummed, pieces-none, pieces-end}
 use Rattle.decimal.specs.Digits.{decimal}
 use Rattle.decimal.proofs.Writing.{Writes, restFrom, wrote-written}
-use Rattle.report.specs.Texts.{afterCommas}
+use Rattle.texts.specs.Lines.{afterCommas}
 use Rattle.report.proofs.ColumnTexts.{columnsText, columnText, first-text, later-text, columns-next}
 
 -- a comma, and a text into the rest behind it

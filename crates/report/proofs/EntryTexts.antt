@@ -6,7 +6,7 @@ use native.Mathlib.Omega.{arith}
 use lib.IntN.{pos}
 use lib.ListN.{length, take, drop, length-take}
 use Rattle.report.specs.Texts.{entryRow}
-use Rattle.report.proofs.Lines.{lineText, linesUpTo}
+use Rattle.texts.proofs.Lines.{lineText, linesUpTo}
 
 -- the line of entry n, and the lines of the first entries
 abbrev pub entryText : List ℕ → ℕ → List ℕ

@@ -18,7 +18,8 @@ use Rattle.completion.specs.Answers.{ertOf, cjaOf, itrOf}
 use Rattle.analysis.specs.Answers.{slacksOf, figuresOf}
 use Rattle.theory.specs.Table.{tableOf}
 use Rattle.theory.specs.Bounds.{ert, cja, itr, slacks}
-use Rattle.report.specs.Texts.{linesText, boundsHeader, boundsRow, boundsText}
+use Rattle.texts.specs.Lines.{linesText}
+use Rattle.report.specs.Texts.{boundsHeader, boundsRow, boundsText}
 use Rattle.report.proofs.RowsTexts.{boundsRows, firstRows}
 
 -- ---- arrays that hold no more than their lists give the same rows

@@ -27,9 +27,9 @@ use Rattle.machine.proofs.SpanTimes.{EndedBy, spans-ended}
 use Rattle.machine.proofs.MostTimes.{most-passed}
 use Rattle.machine.proofs.Claims.{claims}
 use Rattle.report.specs.Texts.{boundsHeader, boundsRow, boundsText, traceHeader, traceText, maxBytes, TextsFit}
-use Rattle.report.proofs.Lines.{lineText, linesUpTo, lines-within, Narrow, line-within}
+use Rattle.texts.proofs.Lines.{lineText, linesUpTo, lines-within, Narrow, line-within}
 use Rattle.report.proofs.EntryTexts.{entriesText}
-use Rattle.report.proofs.Numbers.{numbered-at}
+use Rattle.texts.proofs.Numbers.{numbered-at}
 use Rattle.report.proofs.TraceTexts.{spanText, spansText, rows-spans}
 
 -- ---- a slack

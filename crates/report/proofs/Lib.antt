@@ -1,4 +1,3 @@
-pub mod Lines
 pub mod ColumnTexts
 pub mod ColumnWrites
 pub mod RowTexts
@@ -6,7 +5,6 @@ pub mod RowsTexts
 pub mod EntryTexts
 pub mod FigureRows
 pub mod TraceTexts
-pub mod Numbers
 pub mod Fits
 pub mod TableTexts
 pub mod RowsRead

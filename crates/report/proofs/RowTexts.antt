@@ -9,8 +9,8 @@ use mir.Syntax.{w64}
 use mir.Val.{SFits}
 use Rattle.decimal.specs.Digits.{signed}
 use Rattle.report.specs.declared.row.Row.{Row}
-use Rattle.report.specs.Texts.{afterCommas}
-use Rattle.report.proofs.Lines.{lineEnd, lineText, commas-append, line-is}
+use Rattle.texts.specs.Lines.{afterCommas}
+use Rattle.texts.proofs.Lines.{lineEnd, lineText, commas-append, line-is}
 use Rattle.texts.proofs.WordDigits.{word-digits}
 use Rattle.report.proofs.ColumnTexts.{columnsText}
 

@@ -14,8 +14,8 @@ use Rattle.decimal.proofs.Absence.{lacks, lacks-append, lacks-decimal}
 use Rattle.table.specs.Lines.{linesOf, fieldsIn}
 use Rattle.table.proofs.PlainLines.{lines-plain}
 use Rattle.table.proofs.ReadBack.{field-back}
-use Rattle.report.specs.Texts.{afterCommas, linesText}
-use Rattle.report.proofs.Lines.{Narrow}
+use Rattle.texts.specs.Lines.{afterCommas, linesText}
+use Rattle.texts.proofs.Lines.{Narrow}
 
 -- ---- rows hold no CR, and so are the lines of their text
 plain-signed : (z : ℤ) → lacks 13 (signed z) ≡ true

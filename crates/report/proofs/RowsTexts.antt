@@ -6,7 +6,7 @@ use Rattle.jobs.specs.declared.job.Job.{Job}
 use Rattle.jobs.specs.declared.set.JobSet.{JobSet}
 use Rattle.analysis.specs.declared.answer.Figures.{Figures}
 use Rattle.report.specs.Texts.{boundsRow}
-use Rattle.report.proofs.Lines.{linesUpTo}
+use Rattle.texts.proofs.Lines.{linesUpTo}
 
 -- the lines of the first rows
 abbrev pub boundsRows : List Job → List ℕ → List ℕ → List ℕ → List ℤ → ℕ → List ℕ

@@ -14,10 +14,10 @@ use Rattle.jobs.specs.declared.set.JobSet.{JobSet}
 use Rattle.jobs.specs.Jobs.{noJob, jobsOf, jobAt}
 use Rattle.jobs.proofs.Accepted.{Accepted}
 use Rattle.table.specs.Tables.{header}
-use Rattle.report.specs.Texts.{linesText}
+use Rattle.texts.specs.Lines.{linesText}
 use Rattle.report.specs.Listing.{tableRow, tableText}
-use Rattle.report.proofs.Lines.{linesUpTo, lines-within, Narrow, line-within}
-use Rattle.report.proofs.Numbers.{numbered-at}
+use Rattle.texts.proofs.Lines.{linesUpTo, lines-within, Narrow, line-within}
+use Rattle.texts.proofs.Numbers.{numbered-at}
 
 -- the row of the job at a place
 abbrev pub jobRow : List Job → ℕ → List ℤ

@@ -22,8 +22,9 @@ use Rattle.machine.proofs.Tracing.{rows-length, trace-written, traced-length}
 use Rattle.machine.proofs.MostTimes.{most-passed}
 use Rattle.machine.proofs.Claims.{claims}
 use Rattle.texts.proofs.Wholes.{patched-start}
-use Rattle.report.specs.Texts.{linesText, traceHeader, entryRow, traceText}
-use Rattle.report.proofs.Lines.{lineText, lines-more}
+use Rattle.texts.specs.Lines.{linesText}
+use Rattle.report.specs.Texts.{traceHeader, entryRow, traceText}
+use Rattle.texts.proofs.Lines.{lineText, lines-more}
 use Rattle.report.proofs.EntryTexts.{entryText, entriesText}
 
 -- ---- rows

@@ -13,9 +13,10 @@ use Rattle.jobs.proofs.Checks.{then-first, then-second}
 use Rattle.jobs.proofs.Accepted.{accepted}
 use Rattle.table.specs.Tables.{maxText, recordsFrom, readingOf}
 use Rattle.table.proofs.ReadBack.{Tells, records-back, header-back}
-use Rattle.report.specs.Texts.{afterCommas, linesText, maxBytes}
+use Rattle.texts.specs.Lines.{afterCommas, linesText}
+use Rattle.report.specs.Texts.{maxBytes}
 use Rattle.report.specs.Listing.{tableRow, tableText, WriteRead}
-use Rattle.report.proofs.Lines.{Narrow}
+use Rattle.texts.proofs.Lines.{Narrow}
 use Rattle.report.proofs.RowsRead.{rowText, lines-rows, fields-back}
 use Rattle.report.proofs.TableTexts.{jobWidths, row-narrow, table-within}
 

@@ -7,7 +7,8 @@ use Rattle.jobs.specs.declared.{job.Job.Job, refusal.Check.Check}
 use Rattle.jobs.specs.{Refusals.onPass, Jobs.setOf, Checks.checkOf}
 use Rattle.table.specs.Tables.{header, maxText, readingOf}
 use Rattle.texts.specs.{declared.written.Written.Written, Answers.answerTo}
-use Rattle.report.specs.Texts.{linesText, maxBytes}
+use Rattle.texts.specs.Lines.{linesText}
+use Rattle.report.specs.Texts.{maxBytes}
 
 -- The row of a job: its numbers and values in the order of the columns.
 abbrev pub tableRow : Job → List ℤ

@@ -1,20 +1,10 @@
--- The texts that are printed: lines of integers with single commas. Document 01, "Programs and the C side". Assumes nothing.
+-- The texts that are printed. Document 01, "Programs and the C side". Assumes nothing.
 use Rattle.laws.specs.Words.{ℕ, _*_, _≤_, _≡_, List, [], _∷_, _++_, map, length, getD, take, drop, ℤ, pos, tabulate, ascii}
-use Rattle.decimal.specs.Digits.{signed}
 use Rattle.jobs.specs.declared.{job.Job.Job, refusal.Check.Check}
 use Rattle.jobs.specs.{Limits.maxJobs, Jobs.jobAt, Jobs.mostTimes, Checks.checkOf}
 use Rattle.theory.specs.{Table.tableOf, Bounds.ert, Bounds.cja, Bounds.itr, Bounds.slacks}
 use Rattle.machine.specs.Runs.{rows, traced}
-
--- Integers, each after a comma, code 44.
-unfoldable pub afterCommas : List ℤ → List ℕ
-afterCommas [] = []
-afterCommas (value ∷ values) = (44 ∷ signed value) ++ afterCommas values
-
--- A line for each row: its integers without the first comma, and CR LF.
-unfoldable pub linesText : List (List ℤ) → List ℕ
-linesText [] = []
-linesText (row ∷ rows) = drop 1 (afterCommas row) ++ ascii "\r\n" ++ linesText rows
+use Rattle.texts.specs.Lines.{linesText}
 
 -- The first line of the bounds text.
 abbrev pub boundsHeader : List ℕ

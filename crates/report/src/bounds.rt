@@ -1,7 +1,8 @@
 // The bounds text of a table.
 ghost use Rattle.laws.specs.Words.{_≡_, _++_, _≤_, tabulate, written as Laws·written};
 ghost use Rattle.jobs.specs.Limits.{maxJobs};
-ghost use Rattle.report.specs.Texts.{linesText, boundsHeader, boundsRow, boundsText};
+ghost use Rattle.texts.specs.Lines.{linesText};
+ghost use Rattle.report.specs.Texts.{boundsHeader, boundsRow, boundsText};
 ghost use Rattle.texts.specs.Answers.{answerTo, answerFor, leftFor};
 use crate::columns::write_bytes;
 use crate::rows::rows_length;

@@ -1,7 +1,7 @@
 // Numbers with single commas between them, also as a line, and bytes as they are, at a place of a buffer that has room for them.
 ghost use Rattle.laws.specs.Words.{_≡_, _+_, _*_, _≤_, cond, [], _∷_, map, eqb, pos, length, drop, patched};
 ghost use Rattle.decimal.specs.Digits.{decimal};
-ghost use Rattle.report.specs.Texts.{afterCommas, linesText};
+ghost use Rattle.texts.specs.Lines.{afterCommas, linesText};
 use decimal::count::digit_count;
 use decimal::unsigned::write_unsigned;
 use texts::bytes::put_bytes;

@@ -1,7 +1,8 @@
 // The rows of the trace text: four numbers each, one row after another in a slice.
 ghost use Rattle.laws.specs.Words.{_≡_, _+_, _*_, _≤_, length, tabulate, patched};
 ghost use Rattle.jobs.specs.Limits.{maxJobs};
-ghost use Rattle.report.specs.Texts.{linesText, entryRow};
+ghost use Rattle.texts.specs.Lines.{linesText};
+ghost use Rattle.report.specs.Texts.{entryRow};
 use crate::columns::line_length;
 use crate::columns::write_line;
 

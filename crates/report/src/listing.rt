@@ -1,7 +1,8 @@
 // The text of a table that lists the jobs of a set.
 ghost use Rattle.laws.specs.Words.{_≡_, _+_, _*_, _≤_, map, pos, length, patched};
 ghost use Rattle.jobs.specs.{Limits.maxJobs, Jobs.jobsOf};
-ghost use Rattle.report.specs.{Texts.linesText, Listing.tableRow, Listing.tableAnswer, Listing.tableLeft};
+ghost use Rattle.texts.specs.Lines.{linesText};
+ghost use Rattle.report.specs.Listing.{tableRow, tableAnswer, tableLeft};
 use crate::columns::line_length;
 use crate::columns::write_bytes;
 use crate::columns::write_line;

@@ -1,7 +1,7 @@
 // A row of the bounds text.
 ghost use Rattle.laws.specs.Words.{_≡_, _+_, _≤_, _<_, [], _∷_, pos, length, getD, patched};
 ghost use Rattle.jobs.specs.Limits.{maxJobs};
-ghost use Rattle.report.specs.Texts.{afterCommas, linesText};
+ghost use Rattle.texts.specs.Lines.{afterCommas, linesText};
 use crate::columns::columns_length;
 use crate::columns::write_bytes;
 use crate::columns::write_columns;

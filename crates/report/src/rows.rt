@@ -1,7 +1,8 @@
 // The rows of the bounds text.
 ghost use Rattle.laws.specs.Words.{_≡_, _+_, _*_, _≤_, length, tabulate, patched};
 ghost use Rattle.jobs.specs.Limits.{maxJobs};
-ghost use Rattle.report.specs.Texts.{linesText, boundsRow};
+ghost use Rattle.texts.specs.Lines.{linesText};
+ghost use Rattle.report.specs.Texts.{boundsRow};
 use crate::row::row_length;
 use crate::row::row_of;
 use crate::row::write_row;

@@ -1,7 +1,8 @@
 // The trace text of a table.
 ghost use Rattle.laws.specs.Words.{_≡_, _++_, _*_, _≤_, length, tabulate, written as Laws·written};
 ghost use Rattle.jobs.specs.{Limits.maxJobs, Jobs.jobsOf, Checks.checkOf};
-ghost use Rattle.report.specs.Texts.{linesText, traceHeader, entryRow, traceText};
+ghost use Rattle.texts.specs.Lines.{linesText};
+ghost use Rattle.report.specs.Texts.{traceHeader, entryRow, traceText};
 ghost use Rattle.texts.specs.Answers.{answerTo, answerFor, leftFor};
 use crate::columns::write_bytes;
 use crate::entries::entries_length;

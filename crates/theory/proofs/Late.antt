@@ -24,7 +24,7 @@ late-at : (u : ℕ) → u < maxJobs → getD late u 0 ≡ boundLimit
 late-at u l = getD-replicate maxJobs u boundLimit 0 l
 
 module _ (t : Table) (fit : Fit t) where
-  late-overlap : (k j u : ℕ) → k < t .count → j < t .count → u < t .count → overlap t late k j u ≡ true
+  pub late-overlap : (k j u : ℕ) → k < t .count → j < t .count → u < t .count → overlap t late k j u ≡ true
   late-overlap k j u kl jl ul =
       overlap-by t late k j u
       (omega (arith, late-at u (omega (arith, fit .few)), fit .early k kl))
@@ -44,7 +44,7 @@ module _ (count : ℕ) (columns : List (List ℕ)) (fit : Fit (lent count column
   abbrev t : Table
   t = lent count columns
 
-  weight-late : (u : ℕ) → u < count → spanned columns late 0 boundLimit u ≡ t .most u
+  pub weight-late : (u : ℕ) → u < count → spanned columns late 0 boundLimit u ≡ t .most u
   unfolding weightOf
   weight-late u l =
       rw (lt-ltb 0 (getD late u 0) (omega (arith, late-at u (omega (arith, fit .few)))), lt-ltb (t .earliest u) boundLimit (omega (arith, fit .early u l)))

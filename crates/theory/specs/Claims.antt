@@ -1,7 +1,7 @@
 -- What is proved of every accepted set; proofs/Claims has the proof of all. Document 01, "The runs of demand 3". Assumes nothing.
 use Rattle.laws.specs.Words.{ℕ, zero, suc, _≤_, _<_, max, _≡_, _≢_, true, List, length, numberAt}
 use Rattle.jobs.specs.{declared.job.Job.Job, declared.refusal.Check.Check, Checks.checkOf}
-use Rattle.theory.specs.{Table.Table, Table.tableOf, Bounds.ert, Bounds.cja, Bounds.boundLimit, Bounds.round, Bounds.after, Bounds.Answer, Bounds.roundLimit, Bounds.itr, Runs.Entry, Runs.timesFit, Runs.releasesFit, Runs.isRun, Runs.CompleteBy}
+use Rattle.theory.specs.{Table.Table, Table.tableOf, Bounds.ert, Bounds.cja, Bounds.boundLimit, Bounds.round, Bounds.after, Bounds.Answer, Bounds.roundLimit, Bounds.overlap, Bounds.itr, Delays.ertDelay, Delays.cjaDelay, Delays.itrDelay, Delays.ByErt, Delays.ByPair, Runs.Entry, Runs.timesFit, Runs.releasesFit, Runs.isRun, Runs.CompleteBy}
 
 -- The job at a place of the table is not of the part.
 abbrev pub Left : Table → (ℕ → ℕ) → ℕ → Type 0
@@ -80,6 +80,10 @@ pub record Claims (t : Table) : Type 0 where
   pub taken-off : (part : Table) (place number : ℕ → ℕ) → Part part t place number → Compared _≤_ part t place
   -- Chains strictly less urgent than all others move none of their bounds.
   pub least-urgent : (part : Table) (place number : ℕ → ℕ) → Part part t place number → LessUrgent part t place → Compared _≡_ part t place
+  -- What delays a job adds up to its bound, by each algorithm; by ITR in the last round.
+  pub ert-delays : (j : ℕ) → j < t .count → ByErt t j (ertDelay t j)
+  pub cja-delays : (j : ℕ) → j < t .count → ByPair t (λ k i u. true) j (numberAt (cja t) j) (cjaDelay t j)
+  pub itr-delays : (j : ℕ) → j < t .count → ByPair t (overlap t (itr t .bounds)) j (numberAt (itr t .bounds) j) (itrDelay t j)
 
 -- The claims hold of every accepted list of jobs: no number of checking a set handed by value applies to it.
 abbrev pub EveryAccepted : Type 0

@@ -1,4 +1,3 @@
 pub mod Spans
 pub mod Dumping
-pub mod Trying
 pub mod Answered

@@ -1,7 +1,7 @@
 //! Times the proved part and the plain reference in one run, on the same tables.
 
-use cudlomer::{Set, State, Ticked};
-use reference::{machine, table, text, Job};
+use cudlomer::{Algorithm, Set, State, Ticked};
+use reference::{blocks, machine, set, table, text, Job};
 use std::cmp::Reverse;
 use std::hint::black_box;
 use std::time::Instant;
@@ -193,6 +193,29 @@ fn middle_times(jobs: u64, chains: u64) -> Vec<f64> {
     priorities.map(measure).concat()
 }
 
+/// What is timed of the blocks of a set by ERT, CJA and ITR, the set being checked and its bounds worked out: that, and the same of the plain reference.
+fn blocks_times(jobs: u64, chains: u64) -> Vec<f64> {
+    let jobs = load(jobs, chains);
+    let held = Set::read(&table_text(&jobs)).unwrap();
+    let measure = |algorithm| {
+        let called = time(|| {
+            black_box(held.blocks(black_box(algorithm)).unwrap());
+        });
+        let plain = time(|| {
+            set::check(black_box(&jobs)).unwrap();
+            black_box(blocks::by(&jobs, algorithm as u64).unwrap());
+        });
+        [called, plain]
+    };
+    [Algorithm::Ert, Algorithm::Cja, Algorithm::Itr].map(measure).concat()
+}
+
+fn print_blocks(jobs: u64, chains: u64, times: &[f64]) {
+    let [ert, plain_ert, cja, plain_cja, itr, plain_itr] = times else { unreachable!() };
+    print!("{jobs:2} jobs, {chains} chains: {ert:6.0} {:5.2} | {cja:7.0} {:5.2} | ", ert / plain_ert, cja / plain_cja);
+    println!("{itr:8.0} {:5.2}", itr / plain_itr);
+}
+
 /// The least of each time over some passes, since a machine that others use is slow for seconds on end.
 fn least(measure: impl Fn(u64, u64) -> Vec<f64>, loads: &[(u64, u64)]) -> Vec<Vec<f64>> {
     let mut best: Vec<Vec<f64>> = vec![];
@@ -211,11 +234,13 @@ fn least(measure: impl Fn(u64, u64) -> Vec<f64>, loads: &[(u64, u64)]) -> Vec<Ve
 
 const PASSES: usize = 20;
 
+/// Jobs and chains of the sets whose bounds and blocks are timed.
+const LOADS: [(u64, u64); 8] = [(8, 2), (16, 2), (32, 2), (64, 2), (8, 8), (16, 8), (32, 8), (64, 8)];
+
 fn main() {
-    let loads = [(8, 2), (16, 2), (32, 2), (64, 2), (8, 8), (16, 8), (32, 8), (64, 8)];
     println!("  ns: reading, ratio | ERT, CJA, ITR | what the three calls make once, a step, a step with that | bounds with text, ratio");
-    let times = least(|jobs, chains| bounds_times(&table_text(&load(jobs, chains))), &loads);
-    for (&(jobs, chains), times) in loads.iter().zip(&times) {
+    let times = least(|jobs, chains| bounds_times(&table_text(&load(jobs, chains))), &LOADS);
+    for (&(jobs, chains), times) in LOADS.iter().zip(&times) {
         print_bounds(jobs, chains, times);
     }
     println!("  ns a tick: busy, ratio | idle");
@@ -232,5 +257,9 @@ fn main() {
     for ((jobs, chains), times) in loads.iter().zip(&least(middle_times, &loads)) {
         let [equals, plain_equals, different, plain_different] = times[..] else { unreachable!() };
         println!("{jobs:2} jobs, {chains} chains: {equals:6.1} {:5.2} | {different:6.1} {:5.2}", equals / plain_equals, different / plain_different);
+    }
+    println!("  ns: blocks by a call, which checks the set: ERT, ratio | CJA, ratio | ITR, ratio");
+    for (&(jobs, chains), times) in LOADS.iter().zip(&least(blocks_times, &LOADS)) {
+        print_blocks(jobs, chains, times);
     }
 }

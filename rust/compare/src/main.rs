@@ -1,6 +1,7 @@
 //! Holds the proved part and the plain reference side by side, on tables and sets drawn from fixed seeds and on damaged ones.
 
 mod admission;
+mod blocks;
 mod damage;
 mod draw;
 mod machine;

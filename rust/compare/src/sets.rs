@@ -1,5 +1,6 @@
 //! The functions on sets by value that need no running times.
 
+use crate::blocks;
 use crate::draw::Draw;
 use crate::side::{jobs_of, numbers_of, PART};
 use crate::tally::Tally;
@@ -12,6 +13,7 @@ pub fn compare(tally: &mut Tally, draw: &mut Draw, jobs: &[Job]) {
     let numbers = numbers_of(jobs);
     compare_set(tally, &numbers);
     compare_round_trip(tally, &numbers);
+    blocks::compare(tally, jobs);
     for _ in 0..3 {
         compare_set(tally, &draw.damaged_set(&numbers));
     }
@@ -24,6 +26,7 @@ fn compare_set(tally: &mut Tally, numbers: &[u64]) {
     for algorithm in ALGORITHMS {
         let given = (algorithm, numbers);
         tally.around("set_bounds", &given, (jobs.len(), u64::MAX), |side, out| (side.set_bounds)(numbers, algorithm, out));
+        tally.around("set_blocks", &given, (blocks::length(&jobs), u64::MAX), |side, out| (side.set_blocks)(numbers, algorithm, out));
         tally.answers("set_verdict", &given, |side| (side.set_verdict)(numbers, algorithm));
     }
     tally.answers("set_rounds", &numbers, |side| (side.set_rounds)(numbers));

@@ -31,6 +31,7 @@ pub struct Side {
     pub set_read: fn(&[u8], &mut [u64]) -> Answer,
     pub set_write: fn(&[u64], &mut [u8]) -> Answer,
     pub set_bounds: fn(&[u64], u64, &mut [u64]) -> Answer,
+    pub set_blocks: fn(&[u64], u64, &mut [u64]) -> Answer,
     pub set_verdict: fn(&[u64], u64) -> Answer,
     pub set_rounds: fn(&[u64]) -> Answer,
     pub set_admit: fn(&mut [u64], u64, &[u64], u64) -> Answer,

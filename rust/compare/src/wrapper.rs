@@ -3,8 +3,8 @@
 use crate::draw::{Draw, Kind};
 use crate::is_short;
 use crate::tally::Tally;
-use cudlomer::{Algorithm, Job, Refused, Set, State, Ticked, Times, Verdict};
-use reference::{bounds, machine, set, text, waveform};
+use cudlomer::{Algorithm, Delays, Job, Refused, Set, State, Ticked, Times, Verdict};
+use reference::{blocks, bounds, machine, set, text, waveform};
 
 pub fn compare(tally: &mut Tally, draw: &mut Draw, kind: Kind, jobs: &[reference::Job]) {
     let own: Vec<Job> = jobs.iter().map(job).collect();
@@ -28,6 +28,15 @@ fn job(j: &reference::Job) -> Job {
 
 fn listed(times: Times) -> Vec<u64> {
     times.iter().collect()
+}
+
+/// From which job the sum of a bound begins, and the first and last job of each chain's block, 0 and 0 where it has none.
+type Named = (u64, Vec<[u64; 2]>);
+
+fn named(jobs: &[reference::Job], delays: &Delays) -> Vec<Named> {
+    let chains = jobs.last().map_or(0, |j| j.chain);
+    let block = |place, chain| delays.block(place, chain).map_or([0, 0], |block| [block.first, block.last]);
+    (0..jobs.len()).map(|place| (delays.from(place).unwrap_or(0), (1..=chains).map(|chain| block(place, chain)).collect())).collect()
 }
 
 /// Whether a verdict is yes, or the number of its refusal.
@@ -61,6 +70,8 @@ fn compare_figures(tally: &mut Tally, set: &Set, jobs: &[reference::Job]) {
     for algorithm in [Algorithm::Ert, Algorithm::Cja, Algorithm::Itr] {
         let number = algorithm as u64;
         tally.same("Set::bounds", &jobs, set.bounds(algorithm).map(listed).map_err(|r| r.0), bounds::by(jobs, number));
+        let delays: Vec<Named> = blocks::by(jobs, number).unwrap().iter().map(|delay| (delay.from, delay.named())).collect();
+        tally.same("Set::blocks", &jobs, set.blocks(algorithm).map(|delays| named(jobs, &delays)), Ok(delays));
         tally.same("Set::verdict", &jobs, said(set.verdict(algorithm)), bounds::verdict(jobs, number));
     }
     tally.same("Set::rounds", &jobs, set.rounds(), Ok(bounds::bounds(jobs).rounds));

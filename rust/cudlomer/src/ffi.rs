@@ -9,6 +9,7 @@ extern "C" {
     pub fn cudlomer_set_read(text: *const u8, text_length: usize, jobs: *mut u64, jobs_length: usize) -> i64;
     pub fn cudlomer_set_write(jobs: *const u64, jobs_length: usize, out: *mut u8, out_length: usize) -> i64;
     pub fn cudlomer_set_bounds(jobs: *const u64, jobs_length: usize, algorithm: u64, out: *mut u64, out_length: usize) -> i64;
+    pub fn cudlomer_set_blocks(jobs: *const u64, jobs_length: usize, algorithm: u64, out: *mut u64, out_length: usize) -> i64;
     pub fn cudlomer_set_verdict(jobs: *const u64, jobs_length: usize, algorithm: u64) -> i64;
     pub fn cudlomer_set_rounds(jobs: *const u64, jobs_length: usize) -> i64;
     pub fn cudlomer_set_admit(jobs: *mut u64, jobs_length: usize, count: u64, chain: *const u64, chain_length: usize, algorithm: u64) -> i64;

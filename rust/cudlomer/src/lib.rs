@@ -25,12 +25,14 @@
 
 #![no_std]
 
+mod delays;
 pub mod ffi;
 mod job;
 mod machine;
 mod set;
 mod text;
 
+pub use delays::{Block, Delays};
 pub use job::Job;
 pub use machine::{Row, Run, State, Ticked, Times, Trace};
 pub use set::{Algorithm, Set, Verdict};

@@ -1,6 +1,6 @@
 //! Sets of jobs and what is asked of them.
 
-use crate::{answer, counted, ffi, Job, Refused, Run, State, Ticked, Times, Trace};
+use crate::{answer, counted, ffi, Delays, Job, Refused, Run, State, Ticked, Times, Trace};
 
 /// The algorithms of Sun and Liu; a bound by ITR is at most that by CJA, which is at most that by ERT.
 #[derive(Clone, Copy, Debug, PartialEq, Eq)]
@@ -100,6 +100,27 @@ impl Set {
         // The function reads within the set's jobs and writes within the array.
         bounds.count = counted(unsafe { ffi::cudlomer_set_bounds(self.numbers(), self.length(), algorithm as u64, out, Set::MAX_JOBS) })?;
         Ok(bounds)
+    }
+
+    /// What the bound of each job by the algorithm comes from: the job from which its sum begins, by ERT the job itself, and of each other chain the
+    /// block that delays it, of those with the largest sum the earliest. By ITR a block is named whole, though only the jobs are added whose spans overlap.
+    ///
+    /// ```
+    /// # use cudlomer::{Algorithm, Block, Job, Set};
+    /// let first = Job { chain: 1, job: 1, release: 0, priority: 1, least: 3, most: 3, deadline: 9 };
+    /// let set = Set::of(&[first, Job { job: 2, priority: 0, ..first }, Job { chain: 2, ..first }])?;
+    /// let delays = set.blocks(Algorithm::Itr)?;
+    /// assert_eq!((delays.from(1), delays.block(1, 2)), (Some(1), Some(Block { first: 1, last: 1 })));
+    /// assert_eq!((delays.from(2), delays.block(2, 1)), (Some(1), Some(Block { first: 1, last: 1 })));
+    /// # Ok::<(), cudlomer::Refused>(())
+    /// ```
+    pub fn blocks(&self, algorithm: Algorithm) -> Result<Delays, Refused> {
+        let chains = self.jobs().last().map_or(0, |job| job.chain as usize);
+        let mut delays = Delays { numbers: [0; Delays::MAX_NUMBERS], jobs: self.count, chains };
+        let out = delays.numbers.as_mut_ptr();
+        // The function reads within the set's jobs and writes within the array.
+        counted(unsafe { ffi::cudlomer_set_blocks(self.numbers(), self.length(), algorithm as u64, out, Delays::MAX_NUMBERS) })?;
+        Ok(delays)
     }
 
     /// Whether all deadlines are met by the algorithm.

@@ -1,6 +1,6 @@
 //! The tables with known results of the scope, by the wrapper.
 
-use cudlomer::{Algorithm, Job, Refused, Row, Set, State, Ticked, Verdict};
+use cudlomer::{Algorithm, Block, Delays, Job, Refused, Row, Set, State, Ticked, Verdict};
 
 const HEADER: &str = "chain,job,release,priority,least,most,deadline\r\n";
 
@@ -23,6 +23,38 @@ fn bounds_rounds_and_verdict_of_p1() {
     assert_eq!(bounds(Algorithm::Cja), [100, 110, 185, 270, 125, 195]);
     assert_eq!(bounds(Algorithm::Itr), [50, 60, 175, 260, 50, 110]);
     assert_eq!((p1().rounds(), p1().verdict(Algorithm::Itr)), (Ok(2), Ok(Verdict::No)));
+}
+
+/// From which job the sum of each bound begins, and the block of the other chain.
+fn named(delays: &Delays) -> Vec<(u64, Option<(u64, u64)>)> {
+    let other = |place| if place < 4 { 2 } else { 1 };
+    let block = |place| delays.block(place, other(place)).map(|Block { first, last }| (first, last));
+    (0..6).map(|place| (delays.from(place).unwrap(), block(place))).collect()
+}
+
+#[test]
+fn blocks_of_p1() {
+    let blocks = |algorithm| p1().blocks(algorithm).unwrap();
+    let (both, last, second) = (Some((1, 2)), Some((4, 4)), Some((2, 2)));
+    assert_eq!(named(&blocks(Algorithm::Ert)), [(1, both), (2, None), (3, both), (4, None), (1, last), (2, last)]);
+    assert_eq!(named(&blocks(Algorithm::Cja)), [(1, both), (1, both), (3, both), (3, both), (1, last), (2, last)]);
+    assert_eq!(named(&blocks(Algorithm::Itr)), [(1, both), (1, both), (3, both), (3, both), (1, second), (2, second)]);
+    let own_or_unknown = [1, 0, 3, u64::MAX].map(|chain| blocks(Algorithm::Itr).block(0, chain));
+    assert_eq!(own_or_unknown, [None; 4]);
+}
+
+/// Of two blocks of chain 2 that sum to 4 the first is taken.
+#[test]
+fn the_earliest_of_equal_blocks() {
+    let set = read("1,1,0,1,2,2,9\r\n2,1,0,1,4,4,99\r\n2,2,0,0,1,1,99\r\n2,3,0,1,4,4,99\r\n");
+    let earliest = Some(Block { first: 1, last: 1 });
+    assert_eq!([Algorithm::Ert, Algorithm::Cja, Algorithm::Itr].map(|algorithm| set.blocks(algorithm).unwrap().block(0, 2)), [earliest; 3]);
+}
+
+#[test]
+fn no_delays_beyond_the_set() {
+    let delays = p1().blocks(Algorithm::Itr).unwrap();
+    assert_eq!([6, usize::MAX].map(|place| (delays.from(place), delays.block(place, 1))), [(None, None); 2]);
 }
 
 #[test]
@@ -87,6 +119,7 @@ fn refusals() {
     assert_eq!(Set::of(&[p4(12); 65]), Err(Refused(5)));
     assert_eq!(Set::of(&[Job { least: 0, ..p4(12) }]), Err(Refused(6)));
     assert_eq!((Set::of(&[]), Set::EMPTY.rounds()), (Err(Refused(7)), Err(Refused(7))));
+    assert_eq!(Set::EMPTY.blocks(Algorithm::Itr), Err(Refused(7)));
     assert_eq!(set.run(&set.times(|job| job.most + 1)), Err(Refused(8)));
     assert_eq!(set.write(&mut [0; 40]), Err(Refused(9)));
     let mut late = State { time: State::LAST_TIME + 1, ..State::START };

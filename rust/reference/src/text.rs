@@ -1,6 +1,6 @@
 //! The text of a table, and what the programs print.
 
-use crate::{bounds, machine, table::HEADER, Job};
+use crate::{blocks, bounds, machine, table::HEADER, Job};
 
 pub fn table_text(jobs: &[Job]) -> String {
     let mut out = String::from(HEADER) + "\r\n";
@@ -16,6 +16,17 @@ pub fn bounds_text(jobs: &[Job]) -> String {
     for (i, j) in jobs.iter().enumerate() {
         let slack = j.deadline as i64 - b.itr[i] as i64;
         out += &format!("{},{},{},{},{},{}\r\n", j.chain, j.job, b.ert[i], b.cja[i], b.itr[i], slack);
+    }
+    out
+}
+
+/// By ITR, a row for each job and each other chain.
+pub fn blocks_text(jobs: &[Job]) -> String {
+    let mut out = String::from("chain,job,from,other,first,last\r\n");
+    for (j, delay) in jobs.iter().zip(blocks::by(jobs, 3).unwrap()) {
+        for (other, [first, last]) in (1..).zip(delay.named()).filter(|(other, _)| *other != j.chain) {
+            out += &format!("{},{},{},{other},{first},{last}\r\n", j.chain, j.job, delay.from);
+        }
     }
     out
 }
@@ -43,6 +54,10 @@ mod tests {
             super::bounds_text(&jobs),
             "chain,job,ert,cja,itr,slack\r\n1,1,100,100,50,10\r\n1,2,110,110,60,0\r\n1,3,220,185,175,-5\r\n1,4,305,270,260,0\r\n\
              2,1,125,125,50,0\r\n2,2,260,195,110,10\r\n"
+        );
+        assert_eq!(
+            super::blocks_text(&jobs),
+            "chain,job,from,other,first,last\r\n1,1,1,2,1,2\r\n1,2,1,2,1,2\r\n1,3,3,2,1,2\r\n1,4,3,2,1,2\r\n2,1,1,1,2,2\r\n2,2,2,1,2,2\r\n"
         );
         assert_eq!(
             super::trace_text(&jobs),

@@ -11,6 +11,13 @@ fn answer(value: i64) -> Answer {
     }
 }
 
+type ByAlgorithm = unsafe extern "C" fn(*const u64, usize, u64, *mut u64, usize) -> i64;
+
+fn by_algorithm(function: ByAlgorithm, jobs: &[u64], algorithm: u64, out: &mut [u64]) -> Answer {
+    // It reads within the first slice and writes within the second.
+    answer(unsafe { function(jobs.as_ptr(), jobs.len(), algorithm, out.as_mut_ptr(), out.len()) })
+}
+
 type OnTimes<T> = unsafe extern "C" fn(*const u64, usize, *const u64, usize, *mut T, usize) -> i64;
 
 fn on_times<T>(function: OnTimes<T>, jobs: &[u64], times: &[u64], out: &mut [T]) -> Answer {
@@ -36,10 +43,8 @@ pub const PART: Side = Side {
     set_read: |text, jobs| answer(unsafe { ffi::cudlomer_set_read(text.as_ptr(), text.len(), jobs.as_mut_ptr(), jobs.len()) }),
     // It reads within the first slice and writes within the second.
     set_write: |jobs, out| answer(unsafe { ffi::cudlomer_set_write(jobs.as_ptr(), jobs.len(), out.as_mut_ptr(), out.len()) }),
-    set_bounds: |jobs, algorithm, out| {
-        // It reads within the first slice and writes within the second.
-        answer(unsafe { ffi::cudlomer_set_bounds(jobs.as_ptr(), jobs.len(), algorithm, out.as_mut_ptr(), out.len()) })
-    },
+    set_bounds: |jobs, algorithm, out| by_algorithm(ffi::cudlomer_set_bounds, jobs, algorithm, out),
+    set_blocks: |jobs, algorithm, out| by_algorithm(ffi::cudlomer_set_blocks, jobs, algorithm, out),
     // It reads within the slice.
     set_verdict: |jobs, algorithm| answer(unsafe { ffi::cudlomer_set_verdict(jobs.as_ptr(), jobs.len(), algorithm) }),
     // It reads within the slice.

@@ -2,7 +2,7 @@
 
 use super::{completion_place, work_place, Answer, Side, STATE};
 use reference::machine::{self, State, Ticked};
-use reference::{bounds, set, table, text, waveform, Job};
+use reference::{blocks, bounds, set, table, text, waveform, Job};
 
 /// The jobs that numbers are; those missing of the last are 0.
 pub fn jobs_of(numbers: &[u64]) -> Vec<Job> {
@@ -36,6 +36,12 @@ fn set_read(text: &[u8], out: &mut [u64]) -> Answer {
     let jobs = table::read(text)?;
     put(&numbers_of(&jobs), out)?;
     Ok(jobs.len() as i64)
+}
+
+fn set_blocks(numbers: &[u64], algorithm: u64, out: &mut [u64]) -> Answer {
+    let delays = blocks::by(&checked(numbers)?, algorithm)?;
+    let numbers = delays.iter().flat_map(|delay| [vec![delay.from], delay.named().concat()].concat());
+    put(&numbers.collect::<Vec<u64>>(), out)
 }
 
 fn set_admit(jobs: &mut [u64], count: u64, chain: &[u64], algorithm: u64) -> Answer {
@@ -90,6 +96,7 @@ pub const WANTED: Side = Side {
     set_read,
     set_write: |jobs, out| put(text::table_text(&checked(jobs)?).as_bytes(), out),
     set_bounds: |jobs, algorithm, out| put(&bounds::by(&checked(jobs)?, algorithm)?, out),
+    set_blocks,
     set_verdict: |jobs, algorithm| Ok(bounds::verdict(&checked(jobs)?, algorithm)?.into()),
     set_rounds: |jobs| Ok(bounds::bounds(&checked(jobs)?).rounds as i64),
     set_admit,

@@ -1,8 +1,7 @@
 -- `bounds` answers `boundsOf`, algorithm by algorithm. Assumes nothing.
-use mathlib.Core.Path.{sym, _∙_}
+use mathlib.Core.Path.{sym, ap, _∙_}
 use borrow.Author.Needs.{needs}
-use Rattle.completion.proofs.Passing.{ert-parts, cja-parts, itr-parts}
-use Rattle.analysis.proofs.Algorithms.{by-ert, by-cja, by-itr, by-none, bounds-known, bounds-refused, bounds-unknown}
+use Rattle.analysis.proofs.Algorithms.{is-ert, is-cja, is-itr, is-refused, is-unknown, withoutRounds}
 use Rattle.analysis.proofs.bounds.bounds.Statement.{statement}
 use Rattle.analysis.proofs.bounds.bounds.Tie as tie
 
@@ -10,19 +9,19 @@ ert-requires : tie.Need-ert-requires
 ert-requires c κs = search needs
 
 returns : tie.Need-returns
-returns c = bounds-known _ _ _ _ (by-ert _ _ (c .before .if1 .taken)) (ert-parts _ _ (c .ert .ensures))
+returns c = c .ert .ensures ∙ is-ert _ _ (c .before .if1 .taken)
 
 cja-requires : tie.Need-cja-requires
 cja-requires c κs = search needs
 
 returns-2 : tie.Need-returns-2
-returns-2 c = bounds-known _ _ _ _ (by-cja _ _ (c .before .before .if1 .left) (c .before .if2 .taken)) (cja-parts _ _ (c .cja .ensures))
+returns-2 c = c .cja .ensures ∙ is-cja _ _ (c .before .before .if1 .left) (c .before .if2 .taken)
 
 itr-requires : tie.Need-itr-requires
 itr-requires c κs = search needs
 
 returns-3 : tie.Need-returns-3
-returns-3 c = bounds-known _ _ _ _ (by-itr _ _ (c .before .before .before .before .if1 .left) (c .before .before .before .if2 .left) (c .before .before .if3 .taken)) (itr-parts _ _ (c .before .itr .ensures))
+returns-3 c = ap withoutRounds (c .before .before .itr .ensures) ∙ is-itr _ _ (c .before .before .before .before .before .if1 .left) (c .before .before .before .before .if2 .left) (c .before .before .before .if3 .taken)
 
 check-requires : tie.Need-check-requires
 check-requires c κs = search needs
@@ -34,7 +33,7 @@ refused-requires : tie.Need-refused-requires
 refused-requires c κs = search needs
 
 returns-4 : tie.Need-returns-4
-returns-4 c = c .refused .ensures ∙ bounds-refused _ _ _ (sym (c .before .before .before .before .check .ensures) ∙ c .before .before .refusal .given .1)
+returns-4 c = c .refused .ensures ∙ is-refused _ _ _ (sym (c .before .before .before .before .check .ensures) ∙ c .before .before .refusal .given .1)
 
 enum-told : tie.Need-enum-told
 enum-told c = search needs
@@ -43,7 +42,7 @@ refused-requires-2 : tie.Need-refused-requires-2
 refused-requires-2 c κs = search needs
 
 returns-5 : tie.Need-returns-5
-returns-5 c = c .refused2 .ensures ∙ bounds-unknown _ _ (sym (c .before .before .before .check .ensures) ∙ c .before .enum-told .given .1) (by-none _ _ (c .before .before .before .before .before .before .if1 .left) (c .before .before .before .before .before .if2 .left) (c .before .before .before .before .if3 .left))
+returns-5 c = c .refused2 .ensures ∙ is-unknown _ _ (sym (c .before .before .before .check .ensures) ∙ c .before .enum-told .given .1) (c .before .before .before .before .before .before .if1 .left) (c .before .before .before .before .before .if2 .left) (c .before .before .before .before .if3 .left)
 
 pub bounds-spec : {M : Type 1} → statement M
 bounds-spec =

@@ -13,27 +13,27 @@ use Rattle.analysis.proofs.slack.slacks.Tie as tie
 
 -- the set is accepted
 accepts : (c : tie.After-enum-told) → checkOf (jobsOf (c .before .before .before .args .set)) ≡ Passed
-accepts c = sym (itr-parts _ _ (c .before .before .itr .ensures) .0) ∙ c .enum-told .given .1
+accepts c = sym (itr-parts _ _ (c .before .before .itr-alone .ensures) .0) ∙ c .enum-told .given .1
 
-itr-requires : tie.Need-itr-requires
-itr-requires c κs = search needs
+itr-alone-requires : tie.Need-itr-alone-requires
+itr-alone-requires c κs = search needs
 
 enum-known-check : tie.Need-enum-known-check
 enum-known-check c = search needs
 
 returns : tie.Need-returns
 unfolding slacksOf
-returns c = rw (sym (itr-parts _ _ (c .before .before .before .itr .ensures) .0) ∙ c .before .check .given .1)
+returns c = rw (sym (itr-parts _ _ (c .before .before .before .itr-alone .ensures) .0) ∙ c .before .check .given .1)
 
 enum-told : tie.Need-enum-told
 enum-told c = search needs
 
 slacks-by-requires : tie.Need-slacks-by-requires
-slacks-by-requires c κs = (accepts (c .before), itr-passed _ _ (c .before .before .before .itr .ensures) (accepts (c .before)))
+slacks-by-requires c κs = (accepts (c .before), itr-passed _ _ (c .before .before .before .itr-alone .ensures) (accepts (c .before)))
 
 returns-2 : tie.Need-returns-2
 unfolding slacksOf
 returns-2 c = rw (accepts (c .before .before)) (ap (λ (each : List ℤ). record { check = Passed; slacks = each }) (c .slacks-by .ensures))
 
 pub slacks-spec : {M : Type 1} → statement M
-slacks-spec = tie.close (tie.spec itr-requires enum-known-check returns enum-told slacks-by-requires returns-2)
+slacks-spec = tie.close (tie.spec itr-alone-requires enum-known-check returns enum-told slacks-by-requires returns-2)

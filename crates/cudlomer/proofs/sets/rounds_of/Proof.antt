@@ -7,14 +7,14 @@ use Rattle.cudlomer.proofs.Negation.{handed-on}
 use Rattle.cudlomer.proofs.sets.rounds_of.Statement.{statement}
 use Rattle.cudlomer.proofs.sets.rounds_of.Tie as tie
 
-itr-requires : tie.Need-itr-requires
-itr-requires c κs = search needs
+itr-alone-requires : tie.Need-itr-alone-requires
+itr-alone-requires c κs = search needs
 
 checked-code-requires : tie.Need-checked-code-requires
-checked-code-requires c κs = omega (arith, rounds-few _ _ (c .itr .ensures))
+checked-code-requires c κs = omega (arith, rounds-few _ _ (c .itr-alone .ensures))
 
 returns : tie.Need-returns
-returns c = handed-on (record { sfits = c .checked-code .ok }) (c .checked-code .ensures) ∙ rounds-code _ _ (c .before .itr .ensures)
+returns c = handed-on (record { sfits = c .checked-code .ok }) (c .checked-code .ensures) ∙ rounds-code _ _ (c .before .itr-alone .ensures)
 
 pub rounds-of-spec : {M : Type 1} → statement M
-rounds-of-spec = tie.close (tie.spec itr-requires checked-code-requires returns)
+rounds-of-spec = tie.close (tie.spec itr-alone-requires checked-code-requires returns)

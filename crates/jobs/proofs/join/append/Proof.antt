@@ -4,10 +4,13 @@ use Prim.Native.Nat.{_-_}
 use mathlib.Core.Path.{_≡_, refl, sym, ap, _∙_}
 use native.Mathlib.Omega.{arith}
 use borrow.Author.Needs.{needs}
+use lib.Seq.{take-all}
 use Rattle.jobs.specs.declared.set.JobSet.{JobSet}
 use Rattle.jobs.specs.declared.join.Joined.{Joined}
 use Rattle.jobs.specs.declared.refusal.Check.the-variants.{Passed}
-use Rattle.jobs.specs.Jobs.{jobsOf}
+use Rattle.laws.specs.Words.{lastOf}
+use Rattle.jobs.specs.Limits.{maxJobs}
+use Rattle.jobs.specs.Jobs.{noJob, jobsOf}
 use Rattle.jobs.proofs.Sets.{length-jobs}
 use Rattle.jobs.proofs.Checks.{record-many}
 use Rattle.jobs.proofs.Accepted.{records-few}
@@ -24,27 +27,33 @@ Inv-loop old new set₀ last₀ chain count k₀ set last k = Joining (jobsOf ol
 abbrev μ-loop : tie.MeasureT-loop
 μ-loop old new set₀ last₀ chain count k₀ set last k = count - k
 
+-- the old set has no more jobs than places, so that its last job is the last of all
+last-is : (c : tie.After-last-of Inv-loop μ-loop) → c .last-of .result ≡ lastOf noJob (jobsOf (c .before .before .args .old))
+last-is c =
+    let old = c .before .before .args .old in
+    c .last-of .ensures ∙ ap (lastOf noJob) (take-all maxJobs (jobsOf old) (records-few (jobsOf old) (c .before .before .pre)))
+
 -- the record to be checked is the next one
 next : (c : tie.After-renumber Inv-loop μ-loop)
     → let s = c .before .before .before .before .before .before .before .before in
     c .renumber .result ≡ nextJob (jobsOf (s .args .old)) (jobsOf (s .args .t2)) (c .before .before .before .before .loop .k)
 next c =
     let s = c .before .before .before .before .before .before .before .before in
-    next-job (s .args .old) (s .args .t2) (c .before .before .before .before .loop .k) (c .before .before .before .before .before .before .last-of .result) (c .renumber .result) (c .before .before .before .before .before .before .last-of .ensures) (c .before .before .before .loop-test .taken) (c .renumber .ensures)
+    next-job (s .args .old) (s .args .t2) (c .before .before .before .before .loop .k) (c .before .before .before .before .before .before .last-of .result) (c .renumber .result) (last-is (c .before .before .before .before .before .before)) (c .before .before .before .loop-test .taken) (c .renumber .ensures)
 
 cleared-requires : tie.Need-cleared-requires Inv-loop μ-loop
 cleared-requires c κs = omega (arith, length-jobs (c .args .old), records-few (jobsOf (c .args .old)) (c .pre))
 
 last-of-requires : tie.Need-last-of-requires Inv-loop μ-loop
-last-of-requires c κs = omega (arith, length-jobs (c .before .args .old), records-few (jobsOf (c .before .args .old)) (c .before .pre))
+last-of-requires c κs = search needs
 
 add-chain : tie.Need-add-chain Inv-loop μ-loop
-add-chain c = let h = last-chain (jobsOf (c .before .before .before .args .old)) (c .before .before .before .pre) in rw (c .before .last-of .ensures) (search (needs, h))
+add-chain c = let h = last-chain (jobsOf (c .before .before .before .args .old)) (c .before .before .before .pre) in rw (last-is (c .before)) (search (needs, h))
 
 loop-holds : tie.Need-loop-holds Inv-loop μ-loop
 loop-holds c =
     let s = c .before .before .before in
-    joining-start (jobsOf (s .args .old)) (jobsOf (s .args .t2)) (c .before .before .cleared .result) (c .before .last-of .result) (s .pre) (c .before .before .cleared .ensures) (c .before .last-of .ensures)
+    joining-start (jobsOf (s .args .old)) (jobsOf (s .args .t2)) (c .before .before .cleared .result) (c .before .last-of .result) (s .pre) (c .before .before .cleared .ensures) (last-is (c .before))
 
 returns : tie.Need-returns Inv-loop μ-loop
 returns c =

@@ -3,7 +3,7 @@ use mathlib.Core.List.{map}
 use native.Mathlib.Omega.{arith}
 use lib.IntN.{pos}
 use borrow.Author.Needs.{needs}
-use Rattle.report.proofs.Lines.{line-length}
+use Rattle.texts.proofs.Lines.{line-length}
 use Rattle.report.proofs.columns.line_length.Statement.{statement}
 use Rattle.report.proofs.columns.line_length.Tie as tie
 

@@ -4,7 +4,7 @@ use native.Mathlib.Omega.{arith}
 use lib.IntN.{pos}
 use borrow.Author.Needs.{needs}
 use Rattle.laws.proofs.Buffers.{Wrote, wrote-none, wrote-more, wrote-room, wrote-length}
-use Rattle.report.proofs.Lines.{lineEnd, lineText, line-is, line-length}
+use Rattle.texts.proofs.Lines.{lineEnd, lineText, line-is, line-length}
 use Rattle.report.proofs.ColumnTexts.{columnsText}
 use Rattle.report.proofs.columns.write_line.Statement.{statement}
 use Rattle.report.proofs.columns.write_line.Tie as tie

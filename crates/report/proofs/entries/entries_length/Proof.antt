@@ -4,7 +4,7 @@ use native.Mathlib.Omega.{arith}
 use borrow.Author.Needs.{needs}
 use Rattle.laws.proofs.Pieces.{summed-none, summed-more, summed-end}
 use Rattle.report.specs.Texts.{entryRow}
-use Rattle.report.proofs.Lines.{lines-made, LinesSummed}
+use Rattle.texts.proofs.Lines.{lines-made, LinesSummed}
 use Rattle.report.proofs.EntryTexts.{part-row, part-few}
 use Rattle.report.proofs.entries.entries_length.Statement.{statement}
 use Rattle.report.proofs.entries.entries_length.Tie as tie

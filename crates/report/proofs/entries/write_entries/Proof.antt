@@ -3,7 +3,7 @@ use Prim.Native.Nat.{_-_}
 use borrow.Author.Needs.{needs}
 use Rattle.laws.proofs.Pieces.{pieces-none, pieces-same, pieces-room, pieces-more, pieces-end}
 use Rattle.report.specs.Texts.{entryRow}
-use Rattle.report.proofs.Lines.{lines-made, LinesWritten}
+use Rattle.texts.proofs.Lines.{lines-made, LinesWritten}
 use Rattle.report.proofs.EntryTexts.{part-row}
 use Rattle.report.proofs.entries.write_entries.Statement.{statement}
 use Rattle.report.proofs.entries.write_entries.Tie as tie

@@ -3,7 +3,7 @@ use Prim.Native.Nat.{_-_}
 use native.Mathlib.Omega.{arith}
 use borrow.Author.Needs.{needs}
 use Rattle.laws.proofs.Pieces.{summed-none, summed-more, summed-end}
-use Rattle.report.proofs.Lines.{lines-made, LinesSummed}
+use Rattle.texts.proofs.Lines.{lines-made, LinesSummed}
 use Rattle.report.proofs.TableTexts.{jobRow, lines-set}
 use Rattle.report.proofs.listing.jobs_length.Statement.{statement}
 use Rattle.report.proofs.listing.jobs_length.Tie as tie

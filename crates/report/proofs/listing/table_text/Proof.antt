@@ -14,7 +14,7 @@ use Rattle.jobs.specs.Checks.{checkOf}
 use Rattle.jobs.proofs.Sets.{length-jobs}
 use Rattle.jobs.proofs.Accepted.{accepted}
 use Rattle.table.specs.Tables.{header}
-use Rattle.report.specs.Texts.{linesText}
+use Rattle.texts.specs.Lines.{linesText}
 use Rattle.report.specs.Listing.{tableRow, tableText, tableAnswer, tableLeft}
 use Rattle.texts.proofs.Wholes.{wrote-whole}
 use Rattle.texts.proofs.TextAnswers.{answer-short, answer-fits}

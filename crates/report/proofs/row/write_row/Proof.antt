@@ -7,7 +7,7 @@ use mir.Val.{SFits}
 use mir.Facts.{toZ-ofZ}
 use borrow.Author.Needs.{needs}
 use Rattle.laws.proofs.Buffers.{Wrote, wrote-none, wrote-more, wrote-room, wrote-length}
-use Rattle.report.proofs.Lines.{lineEnd, lineText}
+use Rattle.texts.proofs.Lines.{lineEnd, lineText}
 use Rattle.report.proofs.ColumnTexts.{columnsText}
 use Rattle.report.proofs.RowTexts.{slackText, slack-length, rowValues, integers, row-pieces, row-length}
 use Rattle.report.proofs.row.write_row.Statement.{statement}

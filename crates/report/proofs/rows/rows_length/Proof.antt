@@ -5,7 +5,7 @@ use native.Mathlib.Omega.{arith}
 use lib.ListN.{length}
 use borrow.Author.Needs.{needs}
 use Rattle.laws.proofs.Pieces.{summed-none, summed-more, summed-end}
-use Rattle.report.proofs.Lines.{lineText, lines-made, LinesSummed}
+use Rattle.texts.proofs.Lines.{lineText, lines-made, LinesSummed}
 use Rattle.report.proofs.RowTexts.{integers}
 use Rattle.report.proofs.RowsTexts.{figureRow}
 use Rattle.report.proofs.rows.rows_length.Statement.{statement}

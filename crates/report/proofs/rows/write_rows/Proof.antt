@@ -2,7 +2,7 @@
 use Prim.Native.Nat.{_-_}
 use borrow.Author.Needs.{needs}
 use Rattle.laws.proofs.Pieces.{pieces-none, pieces-same, pieces-room, pieces-more, pieces-end}
-use Rattle.report.proofs.Lines.{lines-made, LinesWritten}
+use Rattle.texts.proofs.Lines.{lines-made, LinesWritten}
 use Rattle.report.proofs.RowsTexts.{figureRow}
 use Rattle.report.proofs.rows.write_rows.Statement.{statement}
 use Rattle.report.proofs.rows.write_rows.Tie as tie

@@ -9,7 +9,7 @@ use Rattle.jobs.specs.Jobs.{jobsOf}
 use Rattle.texts.proofs.TextAnswers.{answer-short, answer-fits}
 use Rattle.dumps.specs.Dumps.{dumpOf}
 use Rattle.dumps.proofs.Entries.{spansOf}
-use Rattle.waveform.proofs.Trying.{tried-short, tried-fits}
+use Rattle.texts.proofs.Trying.{tried-short, tried-fits}
 use Rattle.waveform.proofs.waveform.write_dump.Statement.{statement}
 use Rattle.waveform.proofs.waveform.write_dump.Tie as tie
 

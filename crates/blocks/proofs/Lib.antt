@@ -1,0 +1,3 @@
+pub mod RowTexts
+pub mod Fits
+pub mod NamedTexts
