@@ -18,7 +18,7 @@ use Rattle.completion.specs.declared.answer.Itr.{Itr}
 use Rattle.completion.specs.Delays.{noDelay, delaysNamed}
 use Rattle.completion.specs.Answers.{itrOf}
 use Rattle.texts.specs.Lines.{linesText}
-use Rattle.blocks.specs.Texts.{blocksHeader, jobRows, blocksRows, blocksText}
+use Rattle.blocks.specs.Texts.{blocksHeader, jobRows, blocksRows, delaysText, blocksText}
 
 -- rows do not show what stands beyond
 rows-padded : (js : List Job) (delays : List Delay) (n : ℕ) → blocksRows js (padded maxJobs noDelay delays) n ≡ blocksRows js delays n
@@ -32,9 +32,9 @@ unfolding itrOf
 itr-delays set passed = rw passed refl
 
 pub named-text : (set : JobSet) (answer : Itr) → answer ≡ itrOf set → checkOf (jobsOf set) ≡ Passed
-    → blocksHeader ++ linesText (blocksRows (jobsOf set) (answer .delays) (length (jobsOf set))) ≡ blocksText (jobsOf set)
+    → delaysText (jobsOf set) (answer .delays) ≡ blocksText (jobsOf set)
 unfolding blocksText
 named-text set answer is passed =
     let js = jobsOf set in
-    ap (λ (delays : List Delay). blocksHeader ++ linesText (blocksRows js delays (length js))) (ap (λ (a : Itr). a .delays) is ∙ itr-delays set passed)
+    ap (delaysText js) (ap (λ (a : Itr). a .delays) is ∙ itr-delays set passed)
     ∙ ap (λ rows. blocksHeader ++ linesText rows) (rows-padded js (delaysNamed js (itrDelay (tableOf js))) (length js))

@@ -6,10 +6,8 @@ use Prim.Native.Nat.{ℕ, suc, _+_, _-_}
 use mathlib.Core.List.{List, [], _∷_, _++_, map, map-append, append-assoc, append-nil}
 use mathlib.Core.Logic.{_≢_}
 use mathlib.Core.Path.{_≡_, refl, ap, _∙_}
-use mathlib.Core.Bool.{cond}
 use native.Mathlib.Omega.{arith}
 use native.Mathlib.Numerals.{add-one}
-use lib.Dec.{eqb}
 use lib.IntN.{ℤ, pos}
 use lib.ListN.{length, getD, length-append}
 use borrow.Author.Tests.{eq-eqb, ne-eqb}
@@ -22,7 +20,7 @@ use Rattle.completion.specs.declared.answer.Delay.{Delay}
 use Rattle.completion.specs.Delays.{noBlock, noDelay}
 use Rattle.texts.specs.Lines.{afterCommas, linesText}
 use Rattle.texts.proofs.Lines.{lineEnd, lineText, line-is, lines-append}
-use Rattle.blocks.specs.Texts.{blockRow, otherChains, jobRows, blocksRows}
+use Rattle.blocks.specs.Texts.{blockRow, otherChain, otherChains, jobRows, blocksRows}
 
 abbrev pub threeText : ℕ → ℕ → ℕ → List ℕ
 threeText a b c = decimal a ++ ascii "," ++ decimal b ++ ascii "," ++ decimal c
@@ -63,7 +61,7 @@ row-length a b c d e f =
 
 -- ---- rows after rows
 abbrev pub chainText : Job → Delay → ℕ → List ℕ
-chainText j d n = linesText (map (blockRow j d) (cond (eqb (suc n) (j .chain)) [] (suc n ∷ [])))
+chainText j d n = linesText (map (blockRow j d) (otherChain (j .chain) (suc n)))
 
 pub job-made : (j : Job) (d : Delay) (chains : ℕ) → Made (λ n. linesText (jobRows n j d)) (chainText j d) chains
 unfolding linesText otherChains
@@ -71,7 +69,7 @@ job-made j d chains =
     record {
       none = refl;
       next = λ n h.
-          let one = cond (eqb (suc n) (j .chain)) [] (suc n ∷ []) in
+          let one = otherChain (j .chain) (suc n) in
           rw add-one
           (ap linesText (map-append (blockRow j d) (otherChains (j .chain) n) one)
           ∙ lines-append (map (blockRow j d) (otherChains (j .chain) n)) (map (blockRow j d) one));

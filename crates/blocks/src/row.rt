@@ -1,9 +1,9 @@
 // A row of the text at a place of a buffer, as far as it has room; each function answers the place after what it puts.
-ghost use Rattle.laws.specs.Words.{_+_, _≤_, pos, [], _∷_, _++_, map, length, ascii};
+ghost use Rattle.laws.specs.Words.{_+_, _≤_, [], _∷_, _++_, length, ascii};
 ghost use Rattle.laws.proofs.Clipped.{Put};
 ghost use Rattle.decimal.specs.Digits.{decimal};
 ghost use Rattle.texts.specs.Lines.{linesText};
-ghost use Rattle.blocks.specs.Texts.{maxBlocksText};
+ghost use Rattle.blocks.specs.Texts.{rowNumbers, maxBlocksText};
 use completion::answer::Block;
 use jobs::job::Job;
 use texts::bytes::put_bytes;
@@ -30,10 +30,8 @@ pub(crate) fn put_row(
     out: &mut [u8],
     at: usize,
 ) -> usize
-    requires { let row = map pos (job .chain ∷ job .job ∷ from ∷ other ∷ block .first ∷ block .last ∷ []) in
-        ⌜ at + length (linesText (row ∷ [])) ≤ maxBlocksText ⌝ }
-    ensures { λ r. let row = map pos (job .chain ∷ job .job ∷ from ∷ other ∷ block .first ∷ block .last ∷ []) in
-        ⌜ Put (now (out .entry)) at (linesText (row ∷ [])) (now (out .exit)) r ⌝ }
+    requires { ⌜ at + length (linesText (rowNumbers job from other block ∷ [])) ≤ maxBlocksText ⌝ }
+    ensures { λ r. ⌜ Put (now (out .entry)) at (linesText (rowNumbers job from other block ∷ [])) (now (out .exit)) r ⌝ }
 {
     let comma = put_three(job.chain, job.job, from as u64, out, at);
     let second = comma + put_bytes(b",", out, comma);

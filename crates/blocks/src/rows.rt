@@ -1,9 +1,9 @@
 // The rows of the text: of a job and one chain, of a job, and of all jobs. Each function answers the place after what it puts.
-ghost use Rattle.laws.specs.Words.{_≡_, _+_, _≤_, _<_, suc, cond, [], _∷_, map, eqb, length};
+ghost use Rattle.laws.specs.Words.{_≡_, _+_, _≤_, _<_, suc, map, length};
 ghost use Rattle.laws.proofs.Clipped.{Put};
 ghost use Rattle.jobs.specs.{Limits.maxJobs, Limits.maxChains, Jobs.chainsOf, Jobs.jobsOf};
 ghost use Rattle.texts.specs.Lines.{linesText};
-ghost use Rattle.blocks.specs.Texts.{blockRow, jobRows, blocksRows, maxBlocksText};
+ghost use Rattle.blocks.specs.Texts.{blockRow, otherChain, jobRows, blocksRows, maxBlocksText};
 use crate::row::put_row;
 use completion::answer::Delay;
 use jobs::job::Job;
@@ -12,8 +12,8 @@ use jobs::set::JobSet;
 // The row of a job and the chain after the first n, none where that is its own.
 fn put_chain(job: Job, delay: Delay, n: usize, out: &mut [u8], at: usize) -> usize
     requires { ⌜ n < maxChains ⌝ }
-    requires { let rows = map (blockRow job delay) (cond (eqb (suc n) (job .chain)) [] (suc n ∷ [])) in ⌜ at + length (linesText rows) ≤ maxBlocksText ⌝ }
-    ensures { λ r. let rows = map (blockRow job delay) (cond (eqb (suc n) (job .chain)) [] (suc n ∷ [])) in ⌜ Put (now (out .entry)) at (linesText rows) (now (out .exit)) r ⌝ }
+    requires { let rows = map (blockRow job delay) (otherChain (job .chain) (suc n)) in ⌜ at + length (linesText rows) ≤ maxBlocksText ⌝ }
+    ensures { λ r. let rows = map (blockRow job delay) (otherChain (job .chain) (suc n)) in ⌜ Put (now (out .entry)) at (linesText rows) (now (out .exit)) r ⌝ }
 {
     let other = (n + 1) as u64;
     if other == job.chain {

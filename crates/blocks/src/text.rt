@@ -1,10 +1,9 @@
 // The blocks text of a table, by ITR.
-ghost use Rattle.laws.specs.Words.{_≡_, _≤_, _++_, length, written as Laws·written};
+ghost use Rattle.laws.specs.Words.{_≡_, _≤_, length, written as Laws·written};
 ghost use Rattle.laws.proofs.Clipped.{Put};
 ghost use Rattle.jobs.specs.{Limits.maxJobs, Limits.maxChains, Jobs.chainsOf, Jobs.jobsOf};
-ghost use Rattle.texts.specs.Lines.{linesText};
 ghost use Rattle.texts.specs.Answers.{answerTo, answerFor, leftFor};
-ghost use Rattle.blocks.specs.Texts.{blocksHeader, blocksRows, blocksText, maxBlocksText};
+ghost use Rattle.blocks.specs.Texts.{delaysText, blocksText, maxBlocksText};
 use crate::rows::put_rows;
 use completion::answer::Delay;
 use completion::named::itr;
@@ -21,8 +20,8 @@ pub const MAX_BLOCKS_TEXT: usize = 24 * JobSet::MAX_JOBS * Delay::CHAINS;
 // Puts as much of the text as the buffer has room for, and answers how many bytes the text takes.
 fn put_text(set: JobSet, delays: [Delay; JobSet::MAX_JOBS], out: &mut [u8]) -> usize
     requires { ⌜ (set .count ≤ maxJobs) × (chainsOf (jobsOf set) ≤ maxChains) ⌝ }
-    requires { let text = blocksHeader ++ linesText (blocksRows (jobsOf set) delays (length (jobsOf set))) in ⌜ length text ≤ maxBlocksText ⌝ }
-    ensures { λ r. let text = blocksHeader ++ linesText (blocksRows (jobsOf set) delays (length (jobsOf set))) in ⌜ Put (now (out .entry)) 0 text (now (out .exit)) r ⌝ }
+    requires { ⌜ length (delaysText (jobsOf set) delays) ≤ maxBlocksText ⌝ }
+    ensures { λ r. ⌜ Put (now (out .entry)) 0 (delaysText (jobsOf set) delays) (now (out .exit)) r ⌝ }
 {
     let last = last_of(set);
     let rows = put_bytes(b"chain,job,from,other,first,last\r\n", out, 0);
@@ -32,9 +31,9 @@ fn put_text(set: JobSet, delays: [Delay; JobSet::MAX_JOBS], out: &mut [u8]) -> u
 // Writes the text; its length is what it takes in a buffer of no bytes, so that a short buffer stays as it was.
 fn write_blocks(set: JobSet, delays: [Delay; JobSet::MAX_JOBS], out: &mut [u8]) -> Written
     requires { ⌜ (set .count ≤ maxJobs) × (chainsOf (jobsOf set) ≤ maxChains) ⌝ }
-    requires { let text = blocksHeader ++ linesText (blocksRows (jobsOf set) delays (length (jobsOf set))) in ⌜ length text ≤ maxBlocksText ⌝ }
-    ensures { λ r. let text = blocksHeader ++ linesText (blocksRows (jobsOf set) delays (length (jobsOf set))) in ⌜ r ≡ answerTo text (now (out .entry)) ⌝ }
-    ensures { λ _. let text = blocksHeader ++ linesText (blocksRows (jobsOf set) delays (length (jobsOf set))) in ⌜ now (out .exit) ≡ Laws·written text (now (out .entry)) ⌝ }
+    requires { ⌜ length (delaysText (jobsOf set) delays) ≤ maxBlocksText ⌝ }
+    ensures { λ r. ⌜ r ≡ answerTo (delaysText (jobsOf set) delays) (now (out .entry)) ⌝ }
+    ensures { λ _. ⌜ now (out .exit) ≡ Laws·written (delaysText (jobsOf set) delays) (now (out .entry)) ⌝ }
 {
     let length = put_text(set, delays, &mut out[..0]);
     if out.len() < length {

@@ -1,6 +1,6 @@
 -- The claims of specs/Claims, for every accepted set. Assumes nothing.
-use Prim.Native.Nat.{ℕ, _<_}
-use mathlib.Core.Path.{_≡_, sym, ap, _∙_}
+use Prim.Native.Nat.{ℕ, zero, suc, _<_}
+use mathlib.Core.Path.{_≡_, refl, sym, ap, _∙_}
 use mathlib.Core.Bool.{Bool}
 use mathlib.Core.List.{List}
 use native.Mathlib.Omega.{arith}
@@ -16,13 +16,13 @@ use Rattle.jobs.proofs.Accepted.{Accepted, accepted}
 use Rattle.jobs.proofs.Places.{place-found}
 use Rattle.theory.specs.Table.{Table, tableOf}
 use Rattle.theory.specs.Bounds.{ert, cja, overlap, itr}
-use Rattle.theory.specs.Delays.{Delay as Theory·Delay, ByErt, ByPair, counts, delaySum, ertDelay, cjaDelay, itrDelay}
-use Rattle.theory.proofs.Rules.{always, ert-mono}
+use Rattle.theory.specs.Delays.{Delay as Theory·Delay, ertBegin, ByErt, ByPair, counts, ertDelay, cjaDelay, itrDelay}
+use Rattle.theory.proofs.Rules.{always}
 use Rattle.theory.proofs.Claims as theory
 use Rattle.completion.specs.declared.answer.Delay.{Delay}
 use Rattle.completion.specs.Delays.{noDelay, delayNamed, numberIn, delaysNamed}
 use Rattle.completion.specs.Answers.{ertOf, cjaOf, itrOf}
-use Rattle.completion.specs.Claims.{namedSums, PairAddsUp, RuleAddsUp, EveryAccepted}
+use Rattle.completion.specs.Claims.{PairAddsUp, RuleAddsUp, EveryAccepted}
 use Rattle.completion.proofs.Rounding.{overlap-padded}
 use Rattle.completion.proofs.AddingUp.{blocks-sum}
 
@@ -49,20 +49,18 @@ module _ (js : List Job) (ok : Accepted js) where
       rw (delay-at delay j l, place, getD-padded maxJobs 0 bounds j)
       (omega (arith, h .sum, blocks-sum js ok (counts t keep k j) (h .named)))
 
+  -- the bounds in the answer are those of the table
+  begin-padded : (bounds : List ℕ) (j : ℕ) → ertBegin t (padded maxJobs 0 bounds) j ≡ ertBegin t bounds j
+  unfolding ertBegin
+  begin-padded bounds zero = refl
+  begin-padded bounds (suc i) = rw (getD-padded maxJobs 0 bounds i)
+
   rule-adds-up : ((j : ℕ) → j < length js → ByErt t j (ertDelay t j)) → RuleAddsUp js (padded maxJobs noDelay (delaysNamed js (ertDelay t))) (padded maxJobs 0 (ert t))
+  unfolding delayNamed
   rule-adds-up by j l =
-      let delays : List Delay = padded maxJobs noDelay (delaysNamed js (ertDelay t)) in
-      let byName : ℕ → ℕ = λ i. namedSums js (t .most) (getD delays i noDelay .blocks) in
-      let byBlock : ℕ → ℕ = λ i. delaySum t (t .most) (ertDelay t i .block) in
-      let same : (i : ℕ) → i < length js → byName i ≡ byBlock i
-      = (λ i il. rw (delay-at (ertDelay t) i il) (unfold delayNamed in blocks-sum js ok (t .most) (by i il .named))) in
-      rw (getD-padded maxJobs 0 (ert t) j)
-      (omega (
-        arith,
-        by j l .sum,
-        ert-mono t byName byBlock (λ i il. omega (arith, same i il)) j l,
-        ert-mono t byBlock byName (λ i il. omega (arith, same i il)) j l,
-      ))
+      let h = by j l in
+      rw (delay-at (ertDelay t) j l, begin-padded (ert t) j, getD-padded maxJobs 0 (ert t) j)
+      (omega (arith, h .sum, blocks-sum js ok (t .most) (h .named)))
 
 pub claims : EveryAccepted
 unfolding ertOf cjaOf itrOf

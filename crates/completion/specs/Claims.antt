@@ -3,7 +3,7 @@
 use Rattle.laws.specs.Words.{ℕ, suc, _+_, _<_, _≡_, Bool, true, cond, _&&_, List, leb, eqb, length, getD, numberAt, sumBelow}
 use Rattle.jobs.specs.declared.{job.Job.Job, set.JobSet.JobSet, refusal.Check.Check}
 use Rattle.jobs.specs.{Limits.maxChains, Jobs.jobAt, Jobs.placeIn, Jobs.jobsOf, Checks.checkOf}
-use Rattle.theory.specs.{Table.tableOf, Bounds.ertRule, Bounds.demand, Bounds.overlap, Delays.counts}
+use Rattle.theory.specs.{Table.tableOf, Bounds.demand, Bounds.overlap, Delays.counts, Delays.ertBegin}
 use Rattle.completion.specs.declared.{answer.Block.Block, answer.Delay.Delay}
 use Rattle.completion.specs.{Delays.noBlock, Delays.noDelay, Answers.ertOf, Answers.cjaOf, Answers.itrOf}
 
@@ -25,12 +25,12 @@ PairAddsUp js keep delays bounds =
     let k = placeIn js (jobAt js j .chain) (delay .from) in
     t .latest k + demand t k j + namedSums js (counts t keep k j) (delay .blocks) ≡ numberAt bounds j
 
--- By ERT: the rule with what the jobs named come to for interference.
+-- By ERT: when the sum of the job at j begins, its most time, and the most times of the jobs named.
 abbrev pub RuleAddsUp : List Job → List Delay → List ℕ → Type 0
 RuleAddsUp js delays bounds =
     (j : ℕ) → j < length js
     → let t = tableOf js in
-    ertRule t (λ i. namedSums js (t .most) (getD delays i noDelay .blocks)) j ≡ numberAt bounds j
+    ertBegin t bounds j + t .most j + namedSums js (t .most) (getD delays j noDelay .blocks) ≡ numberAt bounds j
 
 -- One field for each algorithm.
 pub record Claims (set : JobSet) : Type 0 where

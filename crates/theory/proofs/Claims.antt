@@ -27,7 +27,7 @@ use Rattle.theory.proofs.Soundness.{itr-holds, cja-holds, ert-holds}
 use Rattle.theory.proofs.Legal.{times-to, releases-to}
 use Rattle.theory.proofs.Existence.{run-of}
 use Rattle.theory.proofs.Limits.{ert-limit}
-use Rattle.theory.proofs.Delays.{ert-explains, cja-explains, itr-explains}
+use Rattle.theory.proofs.Delays.{ert-explains, cja-explains, itr-explains, last-round}
 use Rattle.theory.proofs.PartBounds.{part-no-later}
 use Rattle.theory.proofs.LeastUrgent.{part-unmoved}
 use Rattle.theory.proofs.Removal.{withoutChain, oldPlace, LeastUrgent, removal-no-later, removal-unmoved}
@@ -75,6 +75,7 @@ claims js passed =
       itr-least = itr-below t;
       taken-off = λ part place number h. part-no-later h (well .ordered);
       least-urgent = λ part place number h less. part-unmoved h (well .ordered) less;
+      last-round = last-round t;
       ert-delays = ert-explains t (well .ordered);
       cja-delays = cja-explains t (well .ordered);
       itr-delays = itr-explains t (well .ordered);

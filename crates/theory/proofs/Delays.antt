@@ -1,7 +1,7 @@
 -- What a bound comes from: the blocks taken add up to the interference, and with the first pair's release and demand to the bound; no pair before it does.
 -- Assumes that the chains come in order.
-use Prim.Native.Nat.{ℕ, suc, _+_, _≤_, _<_}
-use mathlib.Core.Path.{_≡_, refl, sym, ap, subst, fun-ext, _∙_}
+use Prim.Native.Nat.{ℕ, zero, suc, _+_, _≤_, _<_}
+use mathlib.Core.Path.{_≡_, refl, sym, ap, subst, _∙_}
 use mathlib.Core.Logic.{_≢_}
 use mathlib.Core.Bool.{Bool, true, cond}
 use native.Mathlib.Omega.{arith}
@@ -13,9 +13,9 @@ use Rattle.laws.proofs.Sums.{sum-ext}
 use Rattle.laws.proofs.Greatest.{attained}
 use Rattle.laws.proofs.First.{first-before, first-holds, first-least}
 use Rattle.theory.specs.Table.{Table}
-use Rattle.theory.specs.Bounds.{largestBlock, interference, ertRule, interferenceAt, demand, lowest, pairBound, largestPair, cjaWith, cja, overlap, round, after, itr}
+use Rattle.theory.specs.Bounds.{largestBlock, interference, ertRule, interferenceAt, ert, demand, lowest, pairBound, largestPair, cjaWith, cja, overlap, round, after, itr}
 use Rattle.theory.specs.Claims.{Repeats}
-use Rattle.theory.specs.Delays.{noBlock, blockSum, takenBlock, blocksOn, isLargest, firstPair, counts, delaySum, Names, delayAt, ertDelay, cjaDelay, itrDelay, ByErt, ByPair}
+use Rattle.theory.specs.Delays.{noBlock, blockSum, takenBlock, blocksOn, isLargest, firstPair, counts, delaySum, Names, delayAt, ertDelay, cjaDelay, itrDelay, ertBegin, ByErt, ByPair}
 use Rattle.theory.proofs.WellFormed.{Ordered}
 use Rattle.theory.proofs.Rules.{always, pair-below, at-cja, at-ert}
 use Rattle.theory.proofs.Chains.{chains}
@@ -49,17 +49,22 @@ module _ (t : Table) (o : Ordered t) where
         sums = blocks-interference own target w;
       }
 
-  ert-blocks : (i : ℕ) → delaySum t (t .most) (ertDelay t i .block) ≡ interferenceAt t i
+  -- the rule, its predecessor's bound read from the bounds
+  ert-sum : (j : ℕ) → j < t .count → ertBegin t (ert t) j + t .most j + interferenceAt t j ≡ numberAt (ert t) j
+  unfolding ertBegin ertRule
+  ert-sum zero l = sym (at-ert t 0 l)
+  ert-sum (suc i) l = rw (at-ert t i (omega arith)) (sym (at-ert t (suc i) l))
+
+  ert-blocks : (j : ℕ) → delaySum t (t .most) (ertDelay t j .block) ≡ interferenceAt t j
   unfolding ertDelay interferenceAt
-  ert-blocks i = blocks-interference (t .chain i) (t .urgency i) (t .most)
+  ert-blocks j = blocks-interference (t .chain j) (t .urgency j) (t .most)
 
   pub ert-explains : (j : ℕ) → j < t .count → ByErt t j (ertDelay t j)
-  unfolding ertDelay
   ert-explains j l =
       record {
-        itself = refl;
-        named = blocks-name (t .chain j) (t .urgency j) (t .most);
-        sum = ap (λ (inter : ℕ → ℕ). ertRule t inter j) (fun-ext (λ i. ert-blocks i)) ∙ sym (at-ert t j l);
+        itself = unfold ertDelay in refl;
+        named = unfold ertDelay in blocks-name (t .chain j) (t .urgency j) (t .most);
+        sum = omega (arith, ert-blocks j, ert-sum j l);
       }
 
 module _ (t : Table) (keep : ℕ → ℕ → ℕ → Bool) (j : ℕ) where

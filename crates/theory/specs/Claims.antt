@@ -80,6 +80,8 @@ pub record Claims (t : Table) : Type 0 where
   pub taken-off : (part : Table) (place number : ℕ → ℕ) → Part part t place number → Compared _≤_ part t place
   -- Chains strictly less urgent than all others move none of their bounds.
   pub least-urgent : (part : Table) (place number : ℕ → ℕ) → Part part t place number → LessUrgent part t place → Compared _≡_ part t place
+  -- The bounds from which the last round starts are those that it gives, so that they tell which jobs it counts.
+  pub last-round : (n : ℕ) → itr t .rounds ≡ suc n → after t n ≡ itr t .bounds
   -- What delays a job adds up to its bound, by each algorithm; by ITR in the last round.
   pub ert-delays : (j : ℕ) → j < t .count → ByErt t j (ertDelay t j)
   pub cja-delays : (j : ℕ) → j < t .count → ByPair t (λ k i u. true) j (numberAt (cja t) j) (cjaDelay t j)

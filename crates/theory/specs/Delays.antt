@@ -5,8 +5,8 @@
 --   blocksOn      the block taken of each chain but the target's own, as Names says
 --   firstPair     the least k whose sum is the bound of j by CJA or a round
 --   Delay         the job from which the bound's sum begins, and the blocks in it, as ByErt and ByPair say
-use Rattle.laws.specs.Words.{ℕ, zero, suc, _+_, _-_, _≤_, _<_, _≡_, _≢_, _↔_, Bool, true, cond, not, _&&_, leb, ltb, eqb, numberAt, sumBelow, greatest, firstBelow}
-use Rattle.theory.specs.{Table.Table, Bounds.openBlock, Bounds.largestBlock, Bounds.interference, Bounds.ertRule, Bounds.ert, Bounds.demand, Bounds.lowest, Bounds.pairBound, Bounds.largestPair, Bounds.overlap, Bounds.itr}
+use Rattle.laws.specs.Words.{ℕ, zero, suc, _+_, _-_, _≤_, _<_, max, _≡_, _≢_, _↔_, Bool, true, cond, not, _&&_, List, leb, ltb, eqb, numberAt, sumBelow, greatest, firstBelow}
+use Rattle.theory.specs.{Table.Table, Table.joined, Bounds.openBlock, Bounds.largestBlock, Bounds.interference, Bounds.ert, Bounds.demand, Bounds.lowest, Bounds.pairBound, Bounds.largestPair, Bounds.overlap, Bounds.itr}
 
 -- The jobs from place `first` to before place `end`; none where both are 0.
 pub record Block : Type 0 where
@@ -118,11 +118,16 @@ cjaDelay t = delayAt t (λ k j u. true)
 unfoldable pub itrDelay : Table → ℕ → Delay
 itrDelay t = delayAt t (overlap t (itr t .bounds))
 
--- The delay of j gives its ERT bound: with the sums of the named blocks for interference the rule comes to it.
+-- When the sum of a job's ERT bound begins: at its release, or at its predecessor's bound where that is later.
+unfoldable pub ertBegin : Table → List ℕ → ℕ → ℕ
+ertBegin t bounds zero = t .latest 0
+ertBegin t bounds (suc i) = cond (joined t i) (max (numberAt bounds i) (t .latest (suc i))) (t .latest (suc i))
+
+-- The delay of j gives its ERT bound: when its sum begins, its most time and the named blocks add up to it.
 pub record ByErt (t : Table) (j : ℕ) (delay : Delay) : Type 0 where
   pub itself : delay .from ≡ j
   pub named : Names t (t .chain j) (t .urgency j) (t .most) (delay .block)
-  pub sum : ertRule t (λ i. delaySum t (t .most) (ertDelay t i .block)) j ≡ numberAt (ert t) j
+  pub sum : ertBegin t (ert t) j + t .most j + delaySum t (t .most) (delay .block) ≡ numberAt (ert t) j
 
 -- The delay of j gives its bound: release of the pair's first job, the most times up to j and the named blocks add up to it, and no pair before it does.
 pub record ByPair (t : Table) (keep : ℕ → ℕ → ℕ → Bool) (j bound : ℕ) (delay : Delay) : Type 0 where

@@ -1,5 +1,4 @@
 -- `blocks_text` answers `answerFor blocksText`, and leaves `leftFor blocksText`. Assumes nothing.
-use mathlib.Core.List.{_++_}
 use mathlib.Core.Path.{_≡_, ap}
 use native.Mathlib.Omega.{arith}
 use lib.ListN.{length}
@@ -10,9 +9,8 @@ use Rattle.jobs.specs.Checks.{checkOf}
 use Rattle.jobs.proofs.Sets.{length-jobs}
 use Rattle.jobs.proofs.Accepted.{accepted}
 use Rattle.table.proofs.Accepting.{read-check, read-jobs, read-passed}
-use Rattle.texts.specs.Lines.{linesText}
 use Rattle.texts.specs.Answers.{answerFor, leftFor}
-use Rattle.blocks.specs.Texts.{blocksHeader, blocksRows, blocksText}
+use Rattle.blocks.specs.Texts.{delaysText, blocksText}
 use Rattle.jobs.proofs.Chains.{chains-within}
 use Rattle.blocks.proofs.Fits.{blocks-fit}
 use Rattle.blocks.proofs.NamedTexts.{named-text}
@@ -25,8 +23,7 @@ passed c = read-passed _ (c .before .before .before .before .read .ensures) (c .
 
 -- the text of the delays answered is the blocks text
 text-is : (c : tie.After-itr)
-    → let js = jobsOf (c .before .before .before .before .read .result .set) in
-    blocksHeader ++ linesText (blocksRows js (c .itr .result .delays) (length js)) ≡ blocksText js
+    → let js = jobsOf (c .before .before .before .before .read .result .set) in delaysText js (c .itr .result .delays) ≡ blocksText js
 text-is c = named-text (c .before .before .before .before .read .result .set) (c .itr .result) (c .itr .ensures) (passed c)
 
 read-requires : tie.Need-read-requires

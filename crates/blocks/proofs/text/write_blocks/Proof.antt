@@ -1,20 +1,19 @@
 -- `write_blocks` answers and leaves what its text does in the buffer. Assumes nothing.
 use Prim.Native.Nat.{ℕ, _≤_, _<_}
-use mathlib.Core.List.{List, _++_}
+use mathlib.Core.List.{List}
 use native.Mathlib.Omega.{arith}
 use lib.ListN.{length}
 use borrow.Author.Needs.{needs}
 use Rattle.laws.proofs.Clipped.{put-whole}
 use Rattle.jobs.specs.Jobs.{jobsOf}
-use Rattle.texts.specs.Lines.{linesText}
 use Rattle.texts.proofs.TextAnswers.{answer-short, answer-fits}
 use Rattle.texts.proofs.Trying.{tried-short, tried-fits}
-use Rattle.blocks.specs.Texts.{blocksHeader, blocksRows}
+use Rattle.blocks.specs.Texts.{delaysText}
 use Rattle.blocks.proofs.text.write_blocks.Statement.{statement}
 use Rattle.blocks.proofs.text.write_blocks.Tie as tie
 
 abbrev text : tie.Start → List ℕ
-text s = blocksHeader ++ linesText (blocksRows (jobsOf (s .args .set)) (s .args .delays) (length (jobsOf (s .args .set))))
+text s = delaysText (jobsOf (s .args .set)) (s .args .delays)
 
 slice-relend-prefix-put-text : tie.Need-slice-relend-prefix-put-text
 slice-relend-prefix-put-text c = search needs

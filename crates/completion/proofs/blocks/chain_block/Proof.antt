@@ -61,29 +61,36 @@ figure-requires-2 c κs = search needs
 
 taken-block-requires : tie.Need-taken-block-requires Inv-loop μ-loop
 taken-block-requires c κs =
-    let s = c .before .before .before .before .before .before in
-    let h = c .before .before .before .loop-test .taken in
-    rw (c .before .before .figure .ensures) (s .pre .0, h, c .before .before .before .before .loop .inv .first h, chain-ends (c .before .before .before .before) h)
+    let at-end = c .before .before in
+    let h = at-end .before .loop-test .taken in
+    let l = at-end .before .before in
+    let s = l .before .before in
+    rw (at-end .figure .ensures) (s .pre .0, h, l .loop .inv .first h, chain-ends l h)
 
 returns-2 : tie.Need-returns-2 Inv-loop μ-loop
 returns-2 c =
-    let s = c .before .before .before .before .before .before .before in
-    let same : table s .chain (c .before .before .before .before .before .loop .i) ≡ s .args .chain = sym (c .before .before .figure2 .ensures) ∙ c .before .if2 .taken in
+    let at-chain = c .before .before in
+    let l = at-chain .before .before .before in
+    let s = l .before .before in
+    let same : table s .chain (l .loop .i) ≡ s .args .chain = sym (at-chain .figure2 .ensures) ∙ c .before .if2 .taken in
     c .taken-block .ensures
     ∙ ap (λ (x : ℕ). blockNamed (numberAt (s .args .numbers .now)) (takenBlock (table s) x (s .args .target) (counts s))) same
-    ∙ ap (blockNamed (numberAt (s .args .numbers .now))) (sym (block-other (table s) (s .args .own) (s .args .target) (counts s) (s .args .chain) (c .before .before .before .before .before .before .if1 .left)))
+    ∙ ap (blockNamed (numberAt (s .args .numbers .now))) (sym (block-other (table s) (s .args .own) (s .args .target) (counts s) (s .args .chain) (l .before .if1 .left)))
 
 loop-less : tie.Need-loop-less Inv-loop μ-loop
 loop-less c =
-    let h = c .before .before .before .loop-test .taken in
-    omega (arith, chain-ends (c .before .before .before .before) h .later, h, c .before .before .figure .ensures)
+    let at-end = c .before .before in
+    let h = at-end .before .loop-test .taken in
+    omega (arith, chain-ends (at-end .before .before) h .later, h, at-end .figure .ensures)
 
 loop-again : tie.Need-loop-again Inv-loop μ-loop
 loop-again c =
-    let s = c .before .before .before .before .before .before in
-    let h = c .before .before .before .loop-test .taken in
-    rw (c .before .before .figure .ensures)
-    (sought-next (table s) (s .args .chain) (s .pre .0 .ordered) (end-at (c .before .before .before .before)) h (chain-ends (c .before .before .before .before) h) (λ q. c .if2 .left (c .before .figure2 .ensures ∙ q)) (c .before .before .before .before .loop .inv))
+    let at-end = c .before .before in
+    let h = at-end .before .loop-test .taken in
+    let l = at-end .before .before in
+    let s = l .before .before in
+    rw (at-end .figure .ensures)
+    (sought-next (table s) (s .args .chain) (s .pre .0 .ordered) (end-at l) h (chain-ends l h) (λ q. c .if2 .left (c .before .figure2 .ensures ∙ q)) (l .loop .inv))
 
 none-requires-2 : tie.Need-none-requires-2 Inv-loop μ-loop
 none-requires-2 c κs = search needs

@@ -64,7 +64,7 @@ element-copy-out-blocks-on : tie.Need-element-copy-out-blocks-on
 element-copy-out-blocks-on c = search needs
 
 blocks-on-requires : tie.Need-blocks-on-requires
-blocks-on-requires c κs = (c .before .before .before .before .before .pre .0, c .before .before .before .before .before .pre .1)
+blocks-on-requires c κs = let s = c .before .before .before .before .before in (s .pre .0, s .pre .1)
 
 mul-t12 : tie.Need-mul-t12
 mul-t12 c = search (needs, k-within (c .before .before .before .before .before))
@@ -74,9 +74,14 @@ element-copy-out-t18 c = search (needs, k-within (c .before .before .before .bef
 
 returns : tie.Need-returns
 returns c =
-    let s = c .before .before .before .before .before .before .before in
-    made (s .args .count) (s .args .columns .now) (s .args .bound .now) (s .args .numbers .now) (s .args .j) (c .before .before .before .before .before .before .first-pair .result) (c .before .before .before .before .before .before .first-pair .ensures) (c .before .blocks-on .result)
-    (c .before .blocks-on .ensures ∙ rw (c .before .before .before .before .before .figure .ensures, c .before .before .before .before .lowest-from .ensures, c .before .before .before .figure2 .ensures))
+    let at-blocks = c .before in
+    let at-earliest = at-blocks .before .before in
+    let at-lowest = at-earliest .before in
+    let at-chain = at-lowest .before in
+    let at-first = at-chain .before in
+    let a = at-first .before .args in
+    made (a .count) (a .columns .now) (a .bound .now) (a .numbers .now) (a .j) (at-first .first-pair .result) (at-first .first-pair .ensures) (at-blocks .blocks-on .result)
+    (at-blocks .blocks-on .ensures ∙ rw (at-chain .figure .ensures, at-lowest .lowest-from .ensures, at-earliest .figure2 .ensures))
 
 pub delay-at-spec : {M : Type 1} → statement M
 delay-at-spec =

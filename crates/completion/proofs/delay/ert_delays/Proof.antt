@@ -81,11 +81,13 @@ loop-less c = search needs
 
 loop-again : tie.Need-loop-again Inv-loop μ-loop
 loop-again c =
-    let s = c .before .before .before .before .before .before .before .before in
-    let l = c .before .before .before .before .before .before .loop in (
+    let at-urgency = c .before .before in
+    let at-loop = at-urgency .before .before .before .before in
+    let l = at-loop .loop in
+    let s = at-loop .before .before in (
       omega arith,
       filled-next maxJobs noDelay (delay s) (l .j) (l .delays) _ (omega (arith, s .pre .0 .few)) (l .inv .1)
-          (made (s .args .count) (s .args .columns .now) (s .args .numbers .now) (s .pre .0) (l .j) (c .before .blocks-on .result) (c .before .blocks-on .ensures ∙ rw (c .before .before .before .figure .ensures, c .before .before .figure2 .ensures))),
+          (made (s .args .count) (s .args .columns .now) (s .args .numbers .now) (s .pre .0) (l .j) (c .before .blocks-on .result) (c .before .blocks-on .ensures ∙ rw (at-urgency .before .figure .ensures, at-urgency .figure2 .ensures))),
     )
 
 returns : tie.Need-returns Inv-loop μ-loop

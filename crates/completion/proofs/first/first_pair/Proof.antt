@@ -1,18 +1,19 @@
 -- `first_pair` answers `firstPair`. The loop's invariant: the pairs from k on are behind it, and the first of them that gives the bound is known. Assumes nothing.
-use Prim.Native.Nat.{ℕ, suc, _*_, _-_, _≤_, _<_, min}
-use mathlib.Core.Path.{_≡_, _∙_}
+use Prim.Native.Nat.{ℕ, suc, _+_, _*_, _-_, _≤_, _<_, min}
+use mathlib.Core.Path.{_≡_, ap, ap₂, _∙_}
 use mathlib.Core.Bool.{Bool}
+use mathlib.Core.Logic.{_≢_}
 use native.Mathlib.Numerals.{add-one}
 use native.Mathlib.Omega.{arith}
 use borrow.Author.Needs.{needs}
 use Rattle.laws.specs.Words.{numberAt}
 use Rattle.jobs.specs.Limits.{maxTime}
-use Rattle.theory.specs.Bounds.{interference, overlap}
+use Rattle.theory.specs.Bounds.{interference, pairBound, overlap}
 use Rattle.theory.specs.Table.{Table}
 use Rattle.theory.proofs.Columns.{lent}
 use Rattle.theory.proofs.Weights.{spanned}
 use Rattle.theory.proofs.Pairs.{roundAt, Walked, walked-sum, walked-low, pair-is, delay-limit}
-use Rattle.theory.proofs.FirstPairs.{Found, found-none, found-next, found-all, found-stop, known-none, known-next}
+use Rattle.theory.proofs.FirstPairs.{earlier, Found, found-none, found-next, found-all, found-stop, known-none, known-next}
 use Rattle.completion.proofs.first.first_pair.Statement.{statement}
 use Rattle.completion.proofs.first.first_pair.Tie as tie
 
@@ -31,12 +32,64 @@ table s = lent (s .args .count) (s .args .columns .now)
 abbrev keep : tie.Start Inv-loop μ-loop → ℕ → ℕ → ℕ → Bool
 keep s = overlap (table s) (s .args .bound .now)
 
--- the loop's head, from which the walk goes on with the job before
-abbrev previous : (l : tie.At-loop Inv-loop μ-loop) → 0 < l .loop .k → l .loop .k ≡ suc (l .loop .k - 1)
-previous l h = omega arith
+-- ---- the places that an answer looks back to: the start from the loop's head, and in the loop the head from the test of the chain, that from the lowest
+-- urgency, and that from the interference
+abbrev start : tie.At-loop Inv-loop μ-loop → tie.Start Inv-loop μ-loop
+start l = l .before .before .before .before
 
-abbrev delay-small : (s : tie.Start Inv-loop μ-loop) (low from to delay : ℕ) → delay ≡ interference (table s) (table s .chain (s .args .j)) low (spanned (s .args .columns .now) (s .args .bound .now) from to) → delay ≤ s .args .count * maxTime
-delay-small s low from to delay e = delay-limit (s .args .count) (s .args .columns .now) (s .args .bound .now) (s .pre .0 .mosts) _ low from to delay e
+abbrev head : tie.Else1 Inv-loop μ-loop → tie.At-loop Inv-loop μ-loop
+head c = c .before .before .before
+
+abbrev at-chain : tie.After-lower Inv-loop μ-loop → tie.Else1 Inv-loop μ-loop
+at-chain c = c .before .before .before
+
+abbrev at-lower : tie.After-interference Inv-loop μ-loop → tie.After-lower Inv-loop μ-loop
+at-lower c = c .before .before
+
+-- ---- the job at hand, of the chain of j
+abbrev hand : tie.At-loop Inv-loop μ-loop → ℕ
+hand l = l .loop .k - 1
+
+module _ (c : tie.Else1 Inv-loop μ-loop) where
+  abbrev s : tie.Start Inv-loop μ-loop
+  s = start (head c)
+
+  abbrev k : ℕ
+  k = hand (head c)
+
+  previous : head c .loop .k ≡ suc k
+  previous = omega (arith, c .before .before .loop-test .taken)
+
+  inside : k < s .args .count
+  inside = omega (arith, previous, head c .loop .inv .0 .inside, s .pre .2)
+
+  most-limit : table s .most k ≤ maxTime
+  most-limit = s .pre .0 .mosts k inside
+
+  same-chain : table s .chain k ≡ table s .chain (s .args .j)
+  same-chain = rw (c .before .figure3 .ensures, head c .before .before .before .figure .ensures) at (c .if1 .left)
+
+-- ---- the lowest urgency with that of the job at hand, and the interference on the pair, by their places in the table
+lowered : (c : tie.After-lower Inv-loop μ-loop)
+    → let l = head (at-chain c) in c .lower .result ≡ min (l .loop .low) (table (start l) .urgency (hand l))
+lowered c = c .lower .ensures ∙ ap (min (head (at-chain c) .loop .low)) (c .before .figure5 .ensures)
+
+delayed : (c : tie.After-interference Inv-loop μ-loop)
+    → let l = head (at-chain (at-lower c)) in
+    let t = table (start l) in
+    let a = start l .args in
+    c .interference .result ≡ interference t (t .chain (a .j)) (at-lower c .lower .result) (spanned (a .columns .now) (a .bound .now) (t .earliest (hand l)) (numberAt (a .bound .now) (a .j)))
+delayed c =
+    let l = head (at-chain (at-lower c)) in
+    let a = start l .args in
+    c .interference .ensures
+    ∙ ap₂ (λ (own from : ℕ). interference (table (start l)) own (at-lower c .lower .result) (spanned (a .columns .now) (a .bound .now) from (numberAt (a .bound .now) (a .j))))
+    (l .before .before .before .figure .ensures) (c .before .figure6 .ensures)
+
+delay-small : (c : tie.After-interference Inv-loop μ-loop) → let a = start (head (at-chain (at-lower c))) .args in c .interference .result ≤ a .count * maxTime
+delay-small c =
+    let s = start (head (at-chain (at-lower c))) in
+    delay-limit (s .args .count) (s .args .columns .now) (s .args .bound .now) (s .pre .0 .mosts) _ _ _ _ (c .interference .result) (delayed c)
 
 figure-requires : tie.Need-figure-requires Inv-loop μ-loop
 figure-requires c κs = search needs
@@ -67,36 +120,19 @@ figure-requires-3 c κs = search needs
 
 returns : tie.Need-returns Inv-loop μ-loop
 returns c =
-    let s = c .before .before .before .before .before .before .before in
-    let l = c .before .before .before .loop in
-    let e = previous (c .before .before .before) (c .before .before .loop-test .taken) in
-    found-stop (table s) (keep s) (s .args .j) (s .pre .0 .ordered) (s .pre .2) e (omega (arith, l .inv .0 .inside)) (rw (c .before .figure3 .ensures, c .before .before .before .before .before .before .figure .ensures) at (c .if1 .taken)) (l .inv .1)
+    let l = c .before .before .before in
+    let t = table (start l) in
+    let previous : l .loop .k ≡ suc (hand l) = omega (arith, c .before .before .loop-test .taken) in
+    let other : t .chain (hand l) ≢ t .chain (start l .args .j) = rw (c .before .figure3 .ensures, l .before .before .before .figure .ensures) at (c .if1 .taken) in
+    found-stop t (keep (start l)) (start l .args .j) (start l .pre .0 .ordered) (start l .pre .2) previous (omega (arith, l .loop .inv .0 .inside)) other (l .loop .inv .1)
 
 figure-requires-4 : tie.Need-figure-requires-4 Inv-loop μ-loop
 figure-requires-4 c κs = search needs
 
--- the job at hand is of the chain of j
-same-chain : (c : tie.Else1 Inv-loop μ-loop)
-    → let t = table (c .before .before .before .before .before .before .before) in t .chain (c .before .before .before .loop .k - 1) ≡ t .chain (c .before .before .before .before .before .before .before .args .j)
-same-chain c = rw (c .before .figure3 .ensures, c .before .before .before .before .before .before .figure .ensures) at (c .if1 .left)
-
--- the lowest urgency with that of the job at hand, and the interference on the pair, by their places in the table
-lowered : (c : tie.After-lower Inv-loop μ-loop)
-    → let s = c .before .before .before .before .before .before .before .before .before .before in let l = c .before .before .before .before .before .before .loop in c .lower .result ≡ min (l .low) (table s .urgency (l .k - 1))
-lowered c = c .lower .ensures ∙ rw (c .before .figure5 .ensures)
-
-delayed : (c : tie.After-interference Inv-loop μ-loop)
-    → let s = c .before .before .before .before .before .before .before .before .before .before .before .before in
-    let a = s .args in
-    let from = table s .earliest (c .before .before .before .before .before .before .before .before .loop .k - 1) in
-    c .interference .result ≡ interference (table s) (table s .chain (a .j)) (c .before .before .lower .result) (spanned (a .columns .now) (a .bound .now) from (numberAt (a .bound .now) (a .j)))
-delayed c = c .interference .ensures ∙ rw (c .before .figure6 .ensures, c .before .before .before .before .before .before .before .before .before .before .before .figure .ensures)
-
 add-sum : tie.Need-add-sum Inv-loop μ-loop
 add-sum c =
-    let s = c .before .before .before .before .before .before .before .before in
-    let l = c .before .before .before .before .loop in
-    search (needs, s .pre .0 .mosts (l .k - 1) (omega (arith, l .inv .0 .inside, s .pre .2, c .before .before .before .loop-test .taken)), l .inv .0 .small, s .pre .0 .few)
+    let here = c .before in
+    search (needs, most-limit here, head here .loop .inv .0 .small, s here .pre .0 .few)
 
 figure-requires-5 : tie.Need-figure-requires-5 Inv-loop μ-loop
 figure-requires-5 c κs = search needs
@@ -115,18 +151,13 @@ figure-requires-7 c κs = search needs
 
 add-earlier : tie.Need-add-earlier Inv-loop μ-loop
 add-earlier c =
-    let s = c .before .before .before .before .before .before .before .before .before .before .before .before .before in
-    let l = c .before .before .before .before .before .before .before .before .before .loop in
-    let i : l .k - 1 < s .args .count = omega (arith, l .inv .0 .inside, s .pre .2, c .before .before .before .before .before .before .before .before .loop-test .taken) in
-    search (needs, s .pre .0 .mosts (l .k - 1) i, s .pre .0 .late (l .k - 1) i, l .inv .0 .small, s .pre .0 .few)
+    let here = at-chain (at-lower (c .before)) in
+    search (needs, most-limit here, s here .pre .0 .late (k here) (inside here), head here .loop .inv .0 .small, s here .pre .0 .few)
 
 add-earlier-2 : tie.Need-add-earlier-2 Inv-loop μ-loop
 add-earlier-2 c =
-    let s = c .before .before .before .before .before .before .before .before .before .before .before .before .before in
-    let l = c .before .before .before .before .before .before .before .before .before .loop in
-    let i : l .k - 1 < s .args .count = omega (arith, l .inv .0 .inside, s .pre .2, c .before .before .before .before .before .before .before .before .loop-test .taken) in
-    let d = delay-small s _ _ _ (c .before .interference .result) (delayed (c .before)) in
-    search (needs, s .pre .0 .mosts (l .k - 1) i, s .pre .0 .late (l .k - 1) i, l .inv .0 .small, s .pre .0 .few, d)
+    let here = at-chain (at-lower (c .before)) in
+    search (needs, most-limit here, s here .pre .0 .late (k here) (inside here), head here .loop .inv .0 .small, s here .pre .0 .few, delay-small (c .before))
 
 earlier-requires : tie.Need-earlier-requires Inv-loop μ-loop
 earlier-requires c κs = search needs
@@ -136,24 +167,29 @@ loop-less c = search needs
 
 loop-again : tie.Need-loop-again Inv-loop μ-loop
 loop-again c =
-    let s = c .before .before .before .before .before .before .before .before .before .before .before .before .before .before in
-    let l = c .before .before .before .before .before .before .before .before .before .before .loop in
-    let taken = c .before .before .before .before .before .before .before .before .before .loop-test .taken in
-    let e = previous (c .before .before .before .before .before .before .before .before .before .before) taken in
-    let i : l .k - 1 < s .args .count = omega (arith, l .inv .0 .inside, s .pre .2, taken) in
-    let lower = c .before .before .before .before .lower .result in
-    let low = walked-low (table s) (s .args .j) (keep s) maxTime (l .inv .0) e lower (lowered (c .before .before .before .before)) in
-    let sum = walked-sum (table s) (s .args .j) (keep s) maxTime (l .inv .0) e in
-    let chain = same-chain (c .before .before .before .before .before .before .before) in
-    let value = pair-is (s .args .count) (s .args .columns .now) (s .args .bound .now) (l .k - 1) (s .args .j) _ _ _ (omega (arith, l .inv .0 .inside)) sum low (delayed (c .before .before)) in
-    rw (c .before .before .before .before .before .before .figure4 .ensures) (
-      known-next (table s) (keep s) (s .args .j) maxTime (l .inv .0) e lower _ chain (s .pre .0 .mosts (l .k - 1) i) (lowered (c .before .before .before .before)) value,
-      found-next (table s) (keep s) (s .args .j) e (omega (arith, l .inv .0 .inside)) chain _ (c .earlier .result) value
-          (c .earlier .ensures ∙ rw (c .before .figure7 .ensures, c .before .before .before .before .before .before .figure4 .ensures, s .pre .3)) (l .inv .1),
+    let at-interference = c .before .before in
+    let low = at-lower at-interference in
+    let here = at-chain low in
+    let t = table (s here) in
+    let a = s here .args in
+    let inv = head here .loop .inv in
+    let e = previous here in
+    let least = walked-low t (a .j) (keep (s here)) maxTime (inv .0) e (low .lower .result) (lowered low) in
+    let sum = walked-sum t (a .j) (keep (s here)) maxTime (inv .0) e in
+    let value = pair-is (a .count) (a .columns .now) (a .bound .now) (k here) (a .j) _ _ _ (omega (arith, inv .0 .inside)) sum least (delayed at-interference) in
+    let most = low .before .before .figure4 .ensures in
+    let summed : ℕ = c .before .figure7 .result + (head here .loop .sum + low .before .before .figure4 .result) + at-interference .interference .result in
+    let is : summed ≡ pairBound t (keep (s here)) (k here) (a .j) = omega (arith, c .before .figure7 .ensures, most, value) in
+    rw most (
+      known-next t (keep (s here)) (a .j) maxTime (inv .0) e (low .lower .result) _ (same-chain here) (most-limit here) (lowered low) value,
+      found-next t (keep (s here)) (a .j) e (omega (arith, inv .0 .inside)) (same-chain here) summed (c .earlier .result) is
+          (c .earlier .ensures ∙ ap (λ (best : ℕ). earlier summed best (k here) (head here .loop .first)) (s here .pre .3)) (inv .1),
     )
 
 returns-2 : tie.Need-returns-2 Inv-loop μ-loop
-returns-2 c = let s = c .before .before .before .before .before in found-all (table s) (keep s) (s .args .j) (omega (arith, c .loop-test .left)) (c .before .loop .inv .1)
+returns-2 c =
+    let l = c .before in
+    found-all (table (start l)) (keep (start l)) (start l .args .j) (omega (arith, c .loop-test .left)) (l .loop .inv .1)
 
 pub first-pair-spec : {M : Type 1} → statement M
 first-pair-spec =

@@ -59,15 +59,20 @@ numbers-of-requires : tie.Need-numbers-of-requires
 numbers-of-requires c κs = accepts (c .before)
 
 round-delays-requires : tie.Need-round-delays-requires
-round-delays-requires c κs = (held (c .before .before .before .before .before .before) .fit, c .before .before .before .before .before .before .columns-of .ensures .1, bounds-are (c .before .before .before .before .before .before))
+round-delays-requires c κs =
+    let at-columns = c .before .before .before .before .before .before in
+    (held at-columns .fit, at-columns .columns-of .ensures .1, bounds-are at-columns)
 
 returns-2 : tie.Need-returns-2
 unfolding cjaOf
 returns-2 c =
-    let s = c .before .before .before .before .before .before .before .before .before .before .before in
-    let accepted = accepts (c .before .before .before .before .before .before .before .before) in
-    let each = all-cja (s .args .set) (c .before .before .before .before .before .before .before .columns-of .result) (c .before .before .before .before .before .before .before .columns-of .ensures .0) (c .before .before .before .before .before .before .numbers-of .result) (c .before .before .before .before .before .before .numbers-of .ensures) (held (c .before .before .before .before .before .before .before) .fit) in
-    rw accepted (ap₂ passed (cja-parts _ _ (c .before .before .before .before .before .before .before .before .before .before .cja-alone .ensures) .1 ∙ rw accepted) (c .round-delays .ensures ∙ ap (padded maxJobs noDelay) each))
+    let at-numbers = c .before .before .before .before .before .before in
+    let at-columns = at-numbers .before in
+    let at-told = at-columns .before in
+    let at-alone = at-told .before .before in
+    let accepted = accepts at-told in
+    let each = all-cja (at-alone .before .args .set) (at-columns .columns-of .result) (at-columns .columns-of .ensures .0) (at-numbers .numbers-of .result) (at-numbers .numbers-of .ensures) (held at-columns .fit) in
+    rw accepted (ap₂ passed (cja-parts _ _ (at-alone .cja-alone .ensures) .1 ∙ rw accepted) (c .round-delays .ensures ∙ ap (padded maxJobs noDelay) each))
 
 pub cja-spec : {M : Type 1} → statement M
 cja-spec = tie.close (tie.spec cja-alone-requires enum-known-check refused-requires returns enum-told columns-of-requires numbers-of-requires round-delays-requires returns-2)

@@ -51,15 +51,20 @@ numbers-of-requires : tie.Need-numbers-of-requires
 numbers-of-requires c κs = accepts (c .before)
 
 ert-delays-requires : tie.Need-ert-delays-requires
-ert-delays-requires c κs = (held (c .before .before .before .before) .fit, c .before .before .before .before .columns-of .ensures .1)
+ert-delays-requires c κs =
+    let at-columns = c .before .before .before .before in
+    (held at-columns .fit, at-columns .columns-of .ensures .1)
 
 returns-2 : tie.Need-returns-2
 unfolding ertOf
 returns-2 c =
-    let s = c .before .before .before .before .before .before .before .before .before in
-    let accepted = accepts (c .before .before .before .before .before .before) in
-    let each = all-ert (s .args .set) (c .before .before .before .before .before .columns-of .result) (c .before .before .before .before .before .columns-of .ensures .0) (c .before .before .before .before .numbers-of .result) (c .before .before .before .before .numbers-of .ensures) in
-    rw accepted (ap₂ passed (ert-parts _ _ (c .before .before .before .before .before .before .before .before .ert-alone .ensures) .1 ∙ rw accepted) (c .ert-delays .ensures ∙ ap (padded maxJobs noDelay) each))
+    let at-numbers = c .before .before .before .before in
+    let at-columns = at-numbers .before in
+    let at-told = at-columns .before in
+    let at-alone = at-told .before .before in
+    let accepted = accepts at-told in
+    let each = all-ert (at-alone .before .args .set) (at-columns .columns-of .result) (at-columns .columns-of .ensures .0) (at-numbers .numbers-of .result) (at-numbers .numbers-of .ensures) in
+    rw accepted (ap₂ passed (ert-parts _ _ (at-alone .ert-alone .ensures) .1 ∙ rw accepted) (c .ert-delays .ensures ∙ ap (padded maxJobs noDelay) each))
 
 pub ert-spec : {M : Type 1} → statement M
 ert-spec = tie.close (tie.spec ert-alone-requires enum-known-check refused-requires returns enum-told columns-of-requires numbers-of-requires ert-delays-requires returns-2)

@@ -55,17 +55,23 @@ numbers-of-requires : tie.Need-numbers-of-requires
 numbers-of-requires c κs = accepts (c .before)
 
 round-delays-requires : tie.Need-round-delays-requires
-round-delays-requires c κs = (held (c .before .before .before .before .before .before) .fit, c .before .before .before .before .before .before .columns-of .ensures .1, settled-best _ _ (bounds-are (c .before .before .before .before .before .before)))
+round-delays-requires c κs =
+    let at-columns = c .before .before .before .before .before .before in
+    (held at-columns .fit, at-columns .columns-of .ensures .1, settled-best _ _ (bounds-are at-columns))
 
 returns-2 : tie.Need-returns-2
 unfolding itrOf
 returns-2 c =
-    let s = c .before .before .before .before .before .before .before .before .before .before .before in
-    let accepted = accepts (c .before .before .before .before .before .before .before .before) in
-    let alone = c .before .before .before .before .before .before .before .before .before .before .itr-alone in
-    let each = all-itr (s .args .set) (c .before .before .before .before .before .before .before .columns-of .result) (c .before .before .before .before .before .before .before .columns-of .ensures .0) (c .before .before .before .before .before .before .numbers-of .result) (c .before .before .before .before .before .before .numbers-of .ensures) (alone .result .bounds) in
-    let bounds : alone .result .bounds ≡ padded maxJobs 0 (itr (tableOf (jobsOf (s .args .set))) .bounds) = itr-passed _ _ (alone .ensures) accepted in
-    let rounds : alone .result .rounds ≡ itr (tableOf (jobsOf (s .args .set))) .rounds = itr-rounds _ _ (alone .ensures) accepted in
+    let at-numbers = c .before .before .before .before .before .before in
+    let at-columns = at-numbers .before in
+    let at-told = at-columns .before in
+    let at-alone = at-told .before .before in
+    let set = at-alone .before .args .set in
+    let alone = at-alone .itr-alone in
+    let accepted = accepts at-told in
+    let each = all-itr set (at-columns .columns-of .result) (at-columns .columns-of .ensures .0) (at-numbers .numbers-of .result) (at-numbers .numbers-of .ensures) (alone .result .bounds) in
+    let bounds : alone .result .bounds ≡ padded maxJobs 0 (itr (tableOf (jobsOf set)) .bounds) = itr-passed _ _ (alone .ensures) accepted in
+    let rounds : alone .result .rounds ≡ itr (tableOf (jobsOf set)) .rounds = itr-rounds _ _ (alone .ensures) accepted in
     let delays = c .round-delays .ensures ∙ ap (padded maxJobs noDelay) (each bounds) in
     rw accepted (λ x. record { check = Passed; bounds = bounds x; rounds = rounds x; delays = delays x })
 

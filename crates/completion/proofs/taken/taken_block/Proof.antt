@@ -1,6 +1,6 @@
 -- `taken_block` answers `takenBlock`. The loop's invariant: no block before the open one is taken. Assumes nothing.
 use Prim.Native.Nat.{ℕ, _+_, _-_, _≤_, _<_}
-use mathlib.Core.Path.{_≡_, sym, ap, _∙_}
+use mathlib.Core.Path.{_≡_, sym, ap, ap₂, _∙_}
 use mathlib.Core.Bool.{Bool, true, false, _&&_}
 use native.Mathlib.Omega.{arith}
 use lib.Dec.{ltb, eqb}
@@ -14,7 +14,7 @@ use Rattle.theory.specs.Table.{Table}
 use Rattle.theory.specs.Bounds.{largestBlock}
 use Rattle.theory.specs.Delays.{Block as Theory·Block, noBlock as Theory·noBlock, takenBlock}
 use Rattle.theory.proofs.Columns.{lent}
-use Rattle.theory.proofs.Weights.{spanned, weight-le}
+use Rattle.theory.proofs.Weights.{weightOf, spanned, weight-le}
 use Rattle.theory.proofs.Stretches.{opened}
 use Rattle.theory.proofs.Scans.{startNext, Scanned, largest-test, largest-fails, ends-fails, largest-stretch, scanned-none, scanned-small, scanned-next, scanned-found, scanned-all}
 use Rattle.completion.specs.Delays.{blockNamed}
@@ -55,14 +55,28 @@ largest-is c =
 abbrev number : tie.Start Inv-loop μ-loop → ℕ → ℕ
 number s = numberAt (s .args .numbers .now)
 
+-- ---- the places that an answer looks back to: the start from the loop's head, that from the test of the job at hand, and that from its weight
+abbrev start : tie.At-loop Inv-loop μ-loop → tie.Start Inv-loop μ-loop
+start l = l .before .before
+
+abbrev head : tie.Else1 Inv-loop μ-loop → tie.At-loop Inv-loop μ-loop
+head c = c .before .before .before .before
+
+abbrev at-test : tie.After-weight Inv-loop μ-loop → tie.Else1 Inv-loop μ-loop
+at-test c = c .before .before .before .before
+
 -- what is counted of the job at hand
-weighed : (c : tie.After-weight Inv-loop μ-loop) → c .weight .result ≡ counts (c .before .before .before .before .before .before .before .before .before .before) (c .before .before .before .before .before .before .before .before .loop .i)
-weighed c = c .weight .ensures ∙ rw (c .before .before .before .figure2 .ensures, c .before .before .figure3 .ensures)
+weighed : (c : tie.After-weight Inv-loop μ-loop) → let l = head (at-test c) in c .weight .result ≡ counts (start l) (l .loop .i)
+weighed c =
+    let l = head (at-test c) in
+    let a = start l .args in
+    c .weight .ensures
+    ∙ ap₂ (λ (most release : ℕ). weightOf (a .from) (a .to) most release (getD (a .bound .now) (l .loop .i) 0)) (c .before .before .before .figure2 .ensures) (c .before .before .figure3 .ensures)
 
 -- what the tests at the loop's head and behind the loop show
 module _ (l : tie.At-loop Inv-loop μ-loop) where
   abbrev s : tie.Start Inv-loop μ-loop
-  s = l .before .before
+  s = start l
 
   abbrev largest : ℕ
   largest = l .before .largest-block .result
@@ -117,11 +131,13 @@ ended c =
 
 named-requires : tie.Need-named-requires Inv-loop μ-loop
 named-requires c κs =
-    let s = c .before .before .before .before .before .before in
+    let s = start (c .before .before .before .before) in
     (ended c .0, omega (arith, c .before .before .before .loop-test .taken, s .pre .3 .within, s .pre .0 .few))
 
 returns : tie.Need-returns Inv-loop μ-loop
-returns c = c .named .ensures ∙ ap (blockNamed (number (c .before .before .before .before .before .before .before))) (sym (ended (c .before) .1))
+returns c =
+    let l = c .before .before .before .before .before in
+    c .named .ensures ∙ ap (blockNamed (number (start l))) (sym (ended (c .before) .1))
 
 figure-requires-2 : tie.Need-figure-requires-2 Inv-loop μ-loop
 figure-requires-2 c κs = search needs
@@ -140,10 +156,11 @@ weight-requires c κs = search needs
 
 opened-requires : tie.Need-opened-requires Inv-loop μ-loop
 opened-requires c κs =
-    let s = c .before .before .before .before .before .before .before .before .before .before in
-    let l = c .before .before .before .before .before .before .before .before .loop in
-    let small = scanned-small (table s) (s .pre .0 .ordered) (s .args .target) (counts s) (s .args .first) (s .args .end) (s .pre .1) (s .pre .3) (s .pre .2) (l .inv) maxTime (counts-limit s) in
-    omega (arith, s .pre .0 .few, s .pre .3 .within, small, counts-limit s (l .i) (c .before .before .before .before .before .before .before .loop-test .taken), weighed c)
+    let here = at-test c in
+    let l = head here in
+    let s = start l in
+    let small = scanned-small (table s) (s .pre .0 .ordered) (s .args .target) (counts s) (s .args .first) (s .args .end) (s .pre .1) (s .pre .3) (s .pre .2) (l .loop .inv) maxTime (counts-limit s) in
+    omega (arith, s .pre .0 .few, s .pre .3 .within, small, counts-limit s (l .loop .i) (here .before .before .before .loop-test .taken), weighed c)
 
 start-next-requires : tie.Need-start-next-requires Inv-loop μ-loop
 start-next-requires c κs = search needs
@@ -156,11 +173,17 @@ loop-less c = search needs
 
 loop-again : tie.Need-loop-again Inv-loop μ-loop
 loop-again c =
-    let u = c .before .before .before .before .before .before .before .before .figure .ensures in
-    let tests : ltb (c .before .before .before .before .before .before .before .before .figure .result) (c .before .before .before .before .before .before .before .before .before .before .before .before .args .target) && tested (c .before .before .before .before .before .before .before .before .before .before) ≡ false = sym (c .before .before .before .before .before .before .before .ends-largest .ensures) ∙ c .before .before .before .before .before .before .if1 .left in
-    more (c .before .before .before .before .before .before .before .before .before .before) (c .before .before .before .before .before .before .before .before .before .loop-test .taken)
-    (λ some sum l. ends-fails {urgency = c .before .before .before .before .before .before .before .before .figure .result} {target = c .before .before .before .before .before .before .before .before .before .before .before .before .args .target} tests some sum (omega (arith, u, l))) _ _
-    (c .start-next .ensures ∙ rw u) (c .before .opened .ensures ∙ rw (u, weighed (c .before .before)))
+    let at-weight = c .before .before in
+    let here = at-test at-weight in
+    let l = head here in
+    let target = start l .args .target in
+    let urgency = here .before .before .figure .result in
+    let is = here .before .before .figure .ensures in
+    let tests : ltb urgency target && tested l ≡ false = sym (here .before .ends-largest .ensures) ∙ here .if1 .left in
+    more l (here .before .before .before .loop-test .taken)
+    (λ some sum low. ends-fails {urgency = urgency} {target = target} tests some sum (omega (arith, is, low))) _ _
+    (c .start-next .ensures ∙ ap (λ (u : ℕ). startNext (l .loop .start) target u (l .loop .i)) is)
+    (c .before .opened .ensures ∙ ap₂ (opened (l .loop .sum) target) is (weighed at-weight))
 
 is-largest-requires : tie.Need-is-largest-requires Inv-loop μ-loop
 is-largest-requires c κs = search needs
@@ -168,18 +191,19 @@ is-largest-requires c κs = search needs
 -- behind the last job the open block is one with the largest sum
 ended-last : (c : tie.Then2 Inv-loop μ-loop)
     → let l = c .before .before .before in
-    (l .loop .start < c .before .before .before .before .before .args .end) × (taken l ≡ record { first = l .loop .start; end = c .before .before .before .before .before .args .end })
+    let end = start l .args .end in
+    (l .loop .start < end) × (taken l ≡ record { first = l .loop .start; end = end })
 ended-last c =
     let l = c .before .before .before in
-    let end : l .loop .i ≡ c .before .before .before .before .before .args .end = omega (arith, c .before .before .loop-test .left, l .loop .inv .inside) in
-    let some = largest-test {start = l .loop .start} {i = c .before .before .before .before .before .args .end} (sym (c .before .is-largest .ensures) ∙ c .if2 .taken) in
-    (some .0, found l (omega (arith, end, some .0)) (some .1) (λ il. absurd (omega arith)) ∙ rw end)
+    let end : l .loop .i ≡ start l .args .end = omega (arith, c .before .before .loop-test .left, l .loop .inv .inside) in
+    let some = largest-test {start = l .loop .start} {i = start l .args .end} (sym (c .before .is-largest .ensures) ∙ c .if2 .taken) in
+    (some .0, found l (omega (arith, end, some .0)) (some .1) (λ il. absurd (omega arith)) ∙ ap (λ (e : ℕ). record { first = l .loop .start; end = e }) end)
 
 named-requires-2 : tie.Need-named-requires-2 Inv-loop μ-loop
-named-requires-2 c κs = let s = c .before .before .before .before .before in (ended-last c .0, omega (arith, s .pre .3 .within, s .pre .0 .few))
+named-requires-2 c κs = let s = start (c .before .before .before) in (ended-last c .0, omega (arith, s .pre .3 .within, s .pre .0 .few))
 
 returns-2 : tie.Need-returns-2 Inv-loop μ-loop
-returns-2 c = c .named2 .ensures ∙ ap (blockNamed (number (c .before .before .before .before .before .before))) (sym (ended-last (c .before) .1))
+returns-2 c = c .named2 .ensures ∙ ap (blockNamed (number (start (c .before .before .before .before)))) (sym (ended-last (c .before) .1))
 
 none-requires : tie.Need-none-requires Inv-loop μ-loop
 none-requires c κs = search needs
@@ -187,7 +211,7 @@ none-requires c κs = search needs
 returns-3 : tie.Need-returns-3 Inv-loop μ-loop
 returns-3 c =
     let l = c .before .before .before .before in
-    let s = c .before .before .before .before .before .before in
+    let s = start l in
     let end : l .loop .i ≡ s .args .end = omega (arith, c .before .before .before .loop-test .left, l .loop .inv .inside) in
     let nothing : taken l ≡ Theory·noBlock
     = found-none l (omega arith) (λ some sum. largest-fails {start = l .loop .start} {i = s .args .end} (sym (c .before .before .is-largest .ensures) ∙ c .before .if2 .left) (omega arith) sum) in
