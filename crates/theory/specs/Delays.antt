@@ -5,6 +5,7 @@
 --   blocksOn      the block taken of each chain but the target's own, as Names says
 --   firstPair     the least k whose sum is the bound of j by CJA or a round
 --   Delay         the job from which the bound's sum begins, and the blocks in it, as ByErt and ByPair say
+--   ertBegin      when the sum of an ERT bound begins
 use Rattle.laws.specs.Words.{ℕ, zero, suc, _+_, _-_, _≤_, _<_, max, _≡_, _≢_, _↔_, Bool, true, cond, not, _&&_, List, leb, ltb, eqb, numberAt, sumBelow, greatest, firstBelow}
 use Rattle.theory.specs.{Table.Table, Table.joined, Bounds.openBlock, Bounds.largestBlock, Bounds.interference, Bounds.ert, Bounds.demand, Bounds.lowest, Bounds.pairBound, Bounds.largestPair, Bounds.overlap, Bounds.itr}
 
