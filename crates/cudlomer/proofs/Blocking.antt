@@ -6,7 +6,6 @@ use mathlib.Core.List.{List}
 use native.Mathlib.Omega.{arith}
 use lib.Dec.{eqb}
 use lib.ListN.{length, take}
-use lib.Seq.{take-all}
 use Rattle.laws.specs.Words.{tabulate, lastOf, written}
 use Rattle.laws.proofs.Tests.{by-test}
 use Rattle.laws.proofs.Tabulate.{length-tabulate}
@@ -20,7 +19,7 @@ use Rattle.jobs.specs.Jobs.{noJob, jobsOf, chainsOf}
 use Rattle.jobs.specs.Checks.{checkOf}
 use Rattle.jobs.proofs.Sets.{length-jobs}
 use Rattle.jobs.proofs.Accepted.{accepted}
-use Rattle.jobs.proofs.Chains.{chains-within}
+use Rattle.jobs.proofs.Chains.{chains-within, chains-are}
 use Rattle.theory.specs.Delays.{Delay as Theory·Delay}
 use Rattle.completion.specs.declared.answer.Bounds.{Bounds}
 use Rattle.completion.specs.declared.answer.Delay.{Delay}
@@ -97,13 +96,11 @@ module _ (set : JobSet) (algorithm : ℕ) (answer : Bounds) (e : answer ≡ boun
 
     -- the number of the last job's chain is that of the chains
     module _ (last : Job) (is : last ≡ lastOf noJob (take maxJobs js)) where
-      chains-are : last .chain ≡ chainsOf js
-      unfolding chainsOf
-      chains-are =
-          ap (λ (j : Job). j .chain) (is ∙ ap (lastOf noJob) (take-all maxJobs js (omega (arith, length-jobs set, blocks-few))))
+      chains-told : last .chain ≡ chainsOf js
+      chains-told = chains-are js last is (omega (arith, length-jobs set, blocks-few))
 
       pub blocks-chains : last .chain ≤ maxChains
-      blocks-chains = rw chains-are (chains-within js (accepted js passed))
+      blocks-chains = rw chains-told (chains-within js (accepted js passed))
 
       pub blocks-size : set .count * (2 * last .chain + 1) ≤ maxJobs * (2 * maxChains + 1)
       blocks-size = delays-fit (last .chain) (set .count) blocks-few blocks-chains
@@ -114,7 +111,7 @@ module _ (set : JobSet) (algorithm : ℕ) (answer : Bounds) (e : answer ≡ boun
       unfolding blocksCode blocksInto
       blocks-done check memory after checked put =
           let f = found set algorithm (boundsAlone answer) alone told in
-          let numbers : delaysNumbers (last .chain) (take (set .count) (answer .delays)) ≡ blocksBy js algorithm = rw (chains-are, front) refl in
+          let numbers : delaysNumbers (last .chain) (take (set .count) (answer .delays)) ≡ blocksBy js algorithm = rw (chains-told, front) refl in
           let size : length (blocksBy js algorithm) ≡ set .count * (2 * last .chain + 1) =
-          length-delays (chainsOf js) (delaysBy js algorithm) (chains-within js (accepted js passed)) (whole .1) ∙ rw (chains-are, whole .0, length-jobs set) refl in
+          length-delays (chainsOf js) (delaysBy js algorithm) (chains-within js (accepted js passed)) (whole .1) ∙ rw (chains-told, whole .0, length-jobs set) refl in
           rw (f .passed, f .by, size) (ap (λ (k : Check). checkedCode k (set .count * (2 * last .chain + 1))) (rw (numbers, size) at checked), rw numbers at put)

@@ -47,6 +47,10 @@ last-at js h =
     let n : suc (length js - 1) ≡ length js = omega arith in
     ap (lastOf noJob) (sym (take-all (suc (length js - 1)) js (omega arith))) ∙ last-take js (length js - 1) (omega arith)
 
+-- where a set has no more jobs than places, the last of those that it holds is the last of all
+pub last-held : (js : List Job) (last : Job) → last ≡ lastOf noJob (take maxJobs js) → length js ≤ maxJobs → last ≡ lastOf noJob js
+last-held js last e h = e ∙ ap (lastOf noJob) (take-all maxJobs js h)
+
 pub last-chain : (js : List Job) → recordsCheck [] js ≡ Passed → lastOf noJob js .chain ≤ maxChains
 last-chain [] e = unfold lastOf in omega arith
 last-chain (j ∷ js) e =

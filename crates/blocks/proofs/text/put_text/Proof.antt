@@ -1,29 +1,23 @@
 -- `put_text` leaves as much of the text as fits. Assumes nothing.
 use Prim.Native.Nat.{_+_, _≤_}
-use mathlib.Core.Path.{_≡_, ap, _∙_}
+use mathlib.Core.Path.{_≡_}
 use native.Mathlib.Omega.{arith}
 use lib.ListN.{length, length-append}
-use lib.Seq.{take-all}
 use borrow.Author.Needs.{needs}
-use Rattle.laws.specs.Words.{lastOf}
 use Rattle.laws.proofs.Clipped.{put-start, put-then}
-use Rattle.jobs.specs.declared.job.Job.{Job}
-use Rattle.jobs.specs.Limits.{maxJobs}
-use Rattle.jobs.specs.Jobs.{noJob, jobsOf, chainsOf}
+use Rattle.jobs.specs.Jobs.{jobsOf, chainsOf}
 use Rattle.jobs.proofs.Sets.{length-jobs}
+use Rattle.jobs.proofs.Chains.{chains-are}
 use Rattle.texts.specs.Lines.{linesText}
 use Rattle.blocks.specs.Texts.{blocksHeader, blocksRows, maxBlocksText}
 use Rattle.blocks.proofs.text.put_text.Statement.{statement}
 use Rattle.blocks.proofs.text.put_text.Tie as tie
 
 -- the last job's chain is how many chains there are
-chains-are : (c : tie.After-last-of) → c .last-of .result .chain ≡ chainsOf (jobsOf (c .before .before .args .set))
-unfolding chainsOf
-chains-are c =
+chains-told : (c : tie.After-last-of) → c .last-of .result .chain ≡ chainsOf (jobsOf (c .before .before .args .set))
+chains-told c =
     let s = c .before .before in
-    let js = jobsOf (s .args .set) in
-    ap (λ (j : Job). j .chain) (c .last-of .ensures)
-    ∙ ap (λ l. lastOf noJob l .chain) (take-all maxJobs js (omega (arith, length-jobs (s .args .set), s .pre .0 .0)))
+    chains-are (jobsOf (s .args .set)) (c .last-of .result) (c .last-of .ensures) (omega (arith, length-jobs (s .args .set), s .pre .0 .0))
 
 last-of-requires : tie.Need-last-of-requires
 last-of-requires c κs = search needs
@@ -42,7 +36,7 @@ put-rows-requires c κs =
     let set = s .args .set in
     let rows = linesText (blocksRows (jobsOf set) (s .args .delays) (length (jobsOf set))) in
     let room : at-put-bytes .put-bytes .result + length rows ≤ maxBlocksText = omega (arith, s .pre .1, length-append blocksHeader rows, at-put-bytes .put-bytes .ensures .0) in
-    ((s .pre .0 .0, omega (arith, chains-are at-last-of, s .pre .0 .1), chains-are at-last-of), rw (length-jobs set) at room)
+    ((s .pre .0 .0, omega (arith, chains-told at-last-of, s .pre .0 .1), chains-told at-last-of), rw (length-jobs set) at room)
 
 same-length : tie.Need-same-length
 same-length c = search needs

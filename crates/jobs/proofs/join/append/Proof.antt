@@ -4,17 +4,15 @@ use Prim.Native.Nat.{_-_}
 use mathlib.Core.Path.{_≡_, refl, sym, ap, _∙_}
 use native.Mathlib.Omega.{arith}
 use borrow.Author.Needs.{needs}
-use lib.Seq.{take-all}
 use Rattle.jobs.specs.declared.set.JobSet.{JobSet}
 use Rattle.jobs.specs.declared.join.Joined.{Joined}
 use Rattle.jobs.specs.declared.refusal.Check.the-variants.{Passed}
 use Rattle.laws.specs.Words.{lastOf}
-use Rattle.jobs.specs.Limits.{maxJobs}
 use Rattle.jobs.specs.Jobs.{noJob, jobsOf}
 use Rattle.jobs.proofs.Sets.{length-jobs}
 use Rattle.jobs.proofs.Checks.{record-many}
 use Rattle.jobs.proofs.Accepted.{records-few}
-use Rattle.jobs.proofs.Joins.{last-chain, nextJob, Joining, joining-start, joining-count, joining-end, joining-refused, joining-next, next-job, join-refused, join-empty, join-passed}
+use Rattle.jobs.proofs.Joins.{last-held, last-chain, nextJob, Joining, joining-start, joining-count, joining-end, joining-refused, joining-next, next-job, join-refused, join-empty, join-passed}
 use Rattle.jobs.proofs.join.append.Statement.{statement}
 use Rattle.jobs.proofs.join.append.Tie as tie
 
@@ -27,11 +25,11 @@ Inv-loop old new set₀ last₀ chain count k₀ set last k = Joining (jobsOf ol
 abbrev μ-loop : tie.MeasureT-loop
 μ-loop old new set₀ last₀ chain count k₀ set last k = count - k
 
--- the old set has no more jobs than places, so that its last job is the last of all
+-- the last job of the old set
 last-is : (c : tie.After-last-of Inv-loop μ-loop) → c .last-of .result ≡ lastOf noJob (jobsOf (c .before .before .args .old))
 last-is c =
-    let old = c .before .before .args .old in
-    c .last-of .ensures ∙ ap (lastOf noJob) (take-all maxJobs (jobsOf old) (records-few (jobsOf old) (c .before .before .pre)))
+    let old = jobsOf (c .before .before .args .old) in
+    last-held old (c .last-of .result) (c .last-of .ensures) (records-few old (c .before .before .pre))
 
 -- the record to be checked is the next one
 next : (c : tie.After-renumber Inv-loop μ-loop)
