@@ -20,6 +20,7 @@ use Rattle.jobs.proofs.Accepted.{Accepted}
 use Rattle.jobs.proofs.Places.{numbers-rise}
 use Rattle.theory.specs.Table.{Table, tableOf}
 use Rattle.theory.specs.Delays.{Block as Theory·Block, noBlock as Theory·noBlock, IsBlock, blockSum, delaySum, Names}
+use Rattle.theory.proofs.TakenBlock.{no-block-sum}
 use Rattle.completion.specs.declared.answer.Block.{Block}
 use Rattle.completion.specs.Delays.{noBlock, blockNamed, numberIn}
 use Rattle.completion.specs.Claims.{namedSum, namedSums}
@@ -135,7 +136,7 @@ module _ (js : List Job) (ok : Accepted js) (w : ℕ → ℕ) where
         = by-equal c own
         (λ e. rw e (names .own-none))
         (λ ne. names .none c ne .1 (λ u l e. absurd (h u l e))) in
-        ap (blockSum w) none ∙ empty-sum Theory·noBlock (omega arith)
+        ap (blockSum w) none ∙ no-block-sum w
 
     pub blocks-sum : namedSums js w (tabulate 1 maxChains (λ c. blockNamed (numberIn js) (block c))) ≡ delaySum t w block
     unfolding namedSums

@@ -1,5 +1,5 @@
--- The first place at which a test holds: none so far, one place more, found, no further than the last, no earlier than any. Nothing here depends on what the test is.
--- Assumes nothing.
+-- The first place at which a test holds: none so far, one place more, found, no further than the last, no later than any. Nothing here depends on
+-- what the test is. Assumes nothing.
 use Prim.Native.Nat.{ℕ, zero, suc, _+_, _≤_, _<_}
 use mathlib.Core.Bool.{Bool, true, false}
 use mathlib.Core.Path.{_≡_, refl}

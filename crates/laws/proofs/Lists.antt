@@ -1,5 +1,5 @@
--- Lists: what owning an array of structs tells, the rest of a slice, the first places, reads within, the last element, and padding. Nothing here depends on what the
--- elements are. Assumes nothing.
+-- Lists: what owning an array of structs tells, the rest of a slice, the first places, reads within, the last element, and padding. Nothing here
+-- depends on what the elements are. Assumes nothing.
 use Prim.Native.Nat.{ℕ, zero, suc, _+_, _-_, _≤_, _<_, min}
 use mathlib.Core.List.{List, [], _∷_, _++_, append-assoc, append-nil, map}
 use mathlib.Core.Path.{_≡_, refl, sym, ap, _∙_}

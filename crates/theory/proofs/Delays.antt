@@ -7,7 +7,7 @@ use mathlib.Core.Bool.{Bool, true, cond}
 use native.Mathlib.Omega.{arith}
 use lib.Dec.{eqb}
 use borrow.Author.Tests.{eq-eqb, eqb-true}
-use Rattle.laws.specs.Words.{List, sumBelow, numberAt}
+use Rattle.laws.specs.Words.{List, numberAt}
 use Rattle.laws.proofs.Tests.{by-test, by-equal, both-ways, and-left, and-right, and-both}
 use Rattle.laws.proofs.Sums.{sum-ext}
 use Rattle.laws.proofs.Greatest.{attained}
@@ -15,12 +15,12 @@ use Rattle.laws.proofs.First.{first-before, first-holds, first-least}
 use Rattle.theory.specs.Table.{Table}
 use Rattle.theory.specs.Bounds.{largestBlock, interference, ertRule, interferenceAt, ert, demand, lowest, pairBound, largestPair, cjaWith, cja, overlap, round, after, itr}
 use Rattle.theory.specs.Claims.{Repeats}
-use Rattle.theory.specs.Delays.{noBlock, blockSum, takenBlock, blocksOn, isLargest, firstPair, counts, delaySum, Names, delayAt, ertDelay, cjaDelay, itrDelay, ertBegin, ByErt, ByPair}
+use Rattle.theory.specs.Delays.{blockSum, takenBlock, blocksOn, isLargest, firstPair, counts, delaySum, Names, delayAt, ertDelay, cjaDelay, itrDelay, ertBegin, ByErt, ByPair}
 use Rattle.theory.proofs.WellFormed.{Ordered}
 use Rattle.theory.proofs.Rules.{always, pair-below, at-cja, at-ert}
 use Rattle.theory.proofs.Chains.{chains}
 use Rattle.theory.proofs.Settling.{itr-settled, itr-fixed}
-use Rattle.theory.proofs.TakenBlock.{block-own, block-other, taken-none, none-taken, some-taken, taken-only, taken-sum}
+use Rattle.theory.proofs.TakenBlock.{no-block-sum, block-own, block-other, taken-none, none-taken, some-taken, taken-only, taken-sum}
 
 -- ---- the blocks taken add up to the interference
 module _ (t : Table) (o : Ordered t) where
@@ -28,11 +28,8 @@ module _ (t : Table) (o : Ordered t) where
   unfolding blocksOn
   block-share own target w c =
       by-test (eqb c own)
-      (λ e. rw e none-sum)
+      (λ e. rw e (no-block-sum w))
       (λ e. rw e (taken-sum t c target w o))
-    where
-      none-sum : blockSum w noBlock ≡ 0
-      none-sum = unfold blockSum sumBelow in refl
 
   pub blocks-interference : (own target : ℕ) (w : ℕ → ℕ) → delaySum t w (blocksOn t own target w) ≡ interference t own target w
   unfolding interference

@@ -18,6 +18,11 @@ use Rattle.theory.proofs.WellFormed.{Ordered, chain-between}
 use Rattle.theory.proofs.Blocks.{block-on, block-ends, block-none, open-largest}
 use Rattle.theory.proofs.LargestBlock.{runSum, open-above, largest-grows, block-attained}
 
+-- no block sums to nothing
+pub no-block-sum : (w : ℕ → ℕ) → blockSum w noBlock ≡ 0
+unfolding blockSum sumBelow
+no-block-sum w = refl
+
 -- a block taken lies within the table, also where there is none
 pub taken-within : (t : Table) (c target : ℕ) (w : ℕ → ℕ) → takenBlock t c target w .end ≤ t .count
 unfolding takenBlock blockTo
@@ -61,7 +66,7 @@ module _ (t : Table) (c target : ℕ) where
   -- ---- a job that ends one
   pub ends-in : (u : ℕ) → endsBlock t c target u ≡ true → urgentIn t c target u ≡ true
   unfolding endsBlock
-  ends-in u e = and-left (urgentIn t c target u) (not (ltb (suc u) (t .count) && urgentIn t c target (suc u))) e
+  ends-in u e = and-left (urgentIn t c target u) _ e
 
   pub ends-behind : (u : ℕ) → endsBlock t c target u ≡ true → suc u < t .count → urgentIn t c target (suc u) ≡ false
   unfolding endsBlock
@@ -236,7 +241,7 @@ module _ (t : Table) (c target : ℕ) where
           ends-at (b .end - 1) (urgent-in (b .end - 1) (h .chain (b .end - 1) l (omega arith)) (h .urgent (b .end - 1) l (omega arith)))
           (λ more. rw last (not-in (b .end) (λ q. h .behind (omega arith) q)))
 
-      -- of two blocks the one that starts earlier does not end later
+      -- of two blocks the one that starts earlier ends before the other starts
       blocks-apart : (a b : Block) → IsBlock t c target a → IsBlock t c target b → a .first < b .first → a .end ≤ b .first
       blocks-apart a b ha hb l =
           by-order (a .end) (b .first)
@@ -324,11 +329,8 @@ module _ (t : Table) (c target : ℕ) where
           (λ all.
           let h : NoneUrgent t c target
           = (λ u l q. by-order target (t .urgency u) (λ a. absurd (omega (arith, found u l (urgent-in u q a)))) (λ b. b)) in
-          ap (blockSum w) (taken-none h) ∙ none-sum ∙ sym (block-none t c target w (t .count) h))
+          ap (blockSum w) (taken-none h) ∙ no-block-sum w ∙ sym (block-none t c target w (t .count) h))
           (λ some. taken-found some .largest)
-        where
-          none-sum : blockSum w noBlock ≡ 0
-          none-sum = unfold blockSum sumBelow in refl
 
       -- where there is a block, one is taken
       pub some-taken : takenBlock t c target w ≢ noBlock → Taken t c target w (takenBlock t c target w)
