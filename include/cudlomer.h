@@ -56,19 +56,23 @@ enum cudlomer_ticked {
     CUDLOMER_FINISHED = 1
 };
 
-/* The numbers of refusals. */
+/* The numbers of refusals. Of a bad set the first bad job decides, which is checked for 4, 5, 6, 12, 13 and 14 in this order; 7 comes last. Of a bad
+ * text 1 and 2 come first; then the first bad line decides, which is checked for 3, then as a job; 7 comes last. */
 enum cudlomer_refusal {
-    CUDLOMER_TEXT_TOO_LONG = 1,      /* the text is longer than 4,096 bytes */
-    CUDLOMER_NOT_HEADER = 2,         /* the first line is not the header */
-    CUDLOMER_MALFORMED_LINE = 3,     /* a line is not seven decimal numbers with single commas */
-    CUDLOMER_TOO_MANY_RECORDS = 4,   /* there are more than 64 records */
-    CUDLOMER_OUT_OF_ORDER = 5,       /* a chain or job is not next in order */
-    CUDLOMER_OUT_OF_LIMITS = 6,      /* a value or chain number is beyond its limits, or least exceeds most */
-    CUDLOMER_NO_RECORD = 7,          /* there is no record */
-    CUDLOMER_RUNNING_TIMES = 8,      /* the running times are not one for each job, from its least to its most */
-    CUDLOMER_SHORT_BUFFER = 9,       /* the buffer is too short */
-    CUDLOMER_UNKNOWN_ALGORITHM = 10, /* the algorithm is not 1, 2 or 3 */
-    CUDLOMER_IMPOSSIBLE_STATE = 11   /* the state cannot be */
+    CUDLOMER_TEXT_TOO_LONG = 1,                /* the text is longer than 4,096 bytes */
+    CUDLOMER_NOT_HEADER = 2,                   /* the first line is not the header */
+    CUDLOMER_MALFORMED_LINE = 3,               /* a line is not seven decimal numbers with single commas */
+    CUDLOMER_TOO_MANY_RECORDS = 4,             /* there are more than 64 records */
+    CUDLOMER_OUT_OF_ORDER = 5,                 /* a chain or job is not next in order */
+    CUDLOMER_OUT_OF_LIMITS = 6,                /* a chain number, release or deadline is beyond its limit */
+    CUDLOMER_NO_RECORD = 7,                    /* there is no record */
+    CUDLOMER_RUNNING_TIMES = 8,                /* the running times are not one for each job, from its least to its most */
+    CUDLOMER_SHORT_BUFFER = 9,                 /* the buffer is too short */
+    CUDLOMER_UNKNOWN_ALGORITHM = 10,           /* the algorithm is not 1, 2 or 3 */
+    CUDLOMER_IMPOSSIBLE_STATE = 11,            /* the state cannot be */
+    CUDLOMER_PRIORITY_OUT_OF_LIMITS = 12,      /* a priority is beyond 255 */
+    CUDLOMER_LEAST_OR_MOST_OUT_OF_LIMITS = 13, /* a least or a most is not from 1 to 1,000,000 */
+    CUDLOMER_LEAST_ABOVE_MOST = 14             /* a least is above its most */
 };
 
 /* A job. Least is from 1 to most; release, priority and deadline may be 0. A later job of a chain counts as released no earlier than its
@@ -123,18 +127,18 @@ CUDLOMER_SIZE(cudlomer_row, 4);
 /* ---- On texts ---- */
 
 /* Writes `chain,job,ert,cja,itr,slack` and a row for each job, with CR LF, into the buffer: the latest moment at which the job can be complete,
- * by the algorithms ERT, CJA and ITR, and its deadline less the ITR bound. Answers how many bytes were written. Refuses with 1 to 7, then 9. */
+ * by the algorithms ERT, CJA and ITR, and its deadline less the ITR bound. Answers how many bytes were written. Refuses a bad text, then with 9. */
 int64_t cudlomer_bounds(const uint8_t *text, size_t text_length, uint8_t *out, size_t out_length);
 
 /* Writes `chain,job,from,to` and a row for each longest run of one job, the earliest first, with CR LF, into the buffer: when the machine runs
- * the jobs from time 0, each for its most time. Answers how many bytes were written. Refuses with 1 to 7, then 9. While a job runs the machine
+ * the jobs from time 0, each for its most time. Answers how many bytes were written. Refuses a bad text, then with 9. While a job runs the machine
  * goes from tick to tick, at some 2 nanoseconds for each tick and job of the table where this was measured; it passes over idle time. */
 int64_t cudlomer_trace(const uint8_t *text, size_t text_length, uint8_t *out, size_t out_length);
 
-/* Answers 1 where each job's bound by the algorithm is at or before its deadline, and 0 where one is not. Refuses with 1 to 7, then 10. */
+/* Answers 1 where each job's bound by the algorithm is at or before its deadline, and 0 where one is not. Refuses a bad text, then with 10. */
 int64_t cudlomer_verdict(const uint8_t *text, size_t text_length, uint8_t algorithm);
 
-/* Answers how many rounds ITR takes: at most as many as there are jobs. Refuses with 1 to 7. */
+/* Answers how many rounds ITR takes: at most as many as there are jobs. Refuses a bad text. */
 int64_t cudlomer_rounds(const uint8_t *text, size_t text_length);
 
 /* ---- On sets, as plain numbers ----
@@ -159,22 +163,22 @@ int64_t cudlomer_set_waveform(const uint64_t *jobs, size_t jobs_length, const ui
 
 /* ---- On sets, as structs ----
  *
- * `count` is how many jobs the set has, `room` how many elements a buffer has. Each function checks its set anew: refusals 4 to 6 job by job, the
- * first bad job deciding, then 7. */
+ * `count` is how many jobs the set has, `room` how many elements a buffer has. Each function checks its set anew. */
 
-/* Reads the text of a table into `jobs`. Answers how many jobs it has. Refuses with 1 to 7, then with 9 where there is not room for them. */
+/* Reads the text of a table into `jobs`. Answers how many jobs it has. Refuses a bad text, then with 9 where there is not room for them. */
 static inline int64_t cudlomer_jobs_read(const uint8_t *text, size_t text_length, struct cudlomer_job *jobs, size_t room)
 {
     return cudlomer_set_read(text, text_length, (uint64_t *)jobs, CUDLOMER_NUMBERS(cudlomer_job, room));
 }
 
-/* Writes the text of the set's table into the buffer, each line ended by CR LF. Answers how many bytes were written. Refuses with 4 to 7, then 9. */
+/* Writes the text of the set's table into the buffer, each line ended by CR LF. Answers how many bytes were written. Refuses a bad set,
+ * then with 9. */
 static inline int64_t cudlomer_jobs_write(const struct cudlomer_job *jobs, size_t count, uint8_t *out, size_t out_length)
 {
     return cudlomer_set_write((const uint64_t *)jobs, CUDLOMER_NUMBERS(cudlomer_job, count), out, out_length);
 }
 
-/* Writes a bound by the algorithm for each job: by that time it is complete in every run. Answers how many were written. Refuses with 4 to 7,
+/* Writes a bound by the algorithm for each job: by that time it is complete in every run. Answers how many were written. Refuses a bad set,
  * with 10, then with 9 where there is not room for all. */
 static inline int64_t cudlomer_jobs_bounds(const struct cudlomer_job *jobs, size_t count, uint64_t algorithm, uint64_t *bounds, size_t room)
 {
@@ -184,7 +188,7 @@ static inline int64_t cudlomer_jobs_bounds(const struct cudlomer_job *jobs, size
 /* Writes what the bound of each job by the algorithm comes from, for the two functions below: the number of the job from which its sum begins, by
  * ERT the job itself; then for each chain, from 1 on, the first and the last job of the block that delays it, of those with the largest sum the
  * earliest, 0 and 0 where the chain has none and for its own. By ITR a block is named whole, though only the jobs are added whose spans overlap.
- * Answers how many numbers were written: for each job one, and two for each chain. Refuses with 4 to 7, with 10, then with 9 where there is not
+ * Answers how many numbers were written: for each job one, and two for each chain. Refuses a bad set, with 10, then with 9 where there is not
  * room for all. */
 static inline int64_t cudlomer_jobs_blocks(const struct cudlomer_job *jobs, size_t count, uint64_t algorithm, uint64_t *blocks, size_t room)
 {
@@ -212,13 +216,13 @@ static inline struct cudlomer_block cudlomer_blocks_of(const uint64_t *blocks, s
     return block;
 }
 
-/* Answers 1 where each job's bound by the algorithm is at or before its deadline, and 0 where one is not. Refuses with 4 to 7, then 10. */
+/* Answers 1 where each job's bound by the algorithm is at or before its deadline, and 0 where one is not. Refuses a bad set, then with 10. */
 static inline int64_t cudlomer_jobs_verdict(const struct cudlomer_job *jobs, size_t count, uint64_t algorithm)
 {
     return cudlomer_set_verdict((const uint64_t *)jobs, CUDLOMER_NUMBERS(cudlomer_job, count), algorithm);
 }
 
-/* Answers how many rounds ITR takes: at most as many as there are jobs. Refuses with 4 to 7. */
+/* Answers how many rounds ITR takes: at most as many as there are jobs. Refuses a bad set. */
 static inline int64_t cudlomer_jobs_rounds(const struct cudlomer_job *jobs, size_t count)
 {
     return cudlomer_set_rounds((const uint64_t *)jobs, CUDLOMER_NUMBERS(cudlomer_job, count));
@@ -226,8 +230,8 @@ static inline int64_t cudlomer_jobs_rounds(const struct cudlomer_job *jobs, size
 
 /* Asks whether a further chain may come aboard: whether all deadlines are met by the algorithm once it has joined the first `count` jobs, which
  * may be none. On yes the chain stands behind them, as the highest-numbered one with its jobs counted from 1, whatever chain and job numbers it
- * had, and the answer is how many jobs the set has now. On no the answer is 0, and nothing is written. Refuses with 4 to 6 over the joined jobs,
- * with 7 where the chain has none, with 10, then on yes with 9 where there is not room for all. */
+ * had, and the answer is how many jobs the set has now. On no the answer is 0, and nothing is written. Refuses the first bad one of the joined
+ * jobs, then with 7 where the chain has none, with 10, then on yes with 9 where there is not room for all. */
 static inline int64_t cudlomer_jobs_admit(struct cudlomer_job *jobs, size_t room, size_t count, const struct cudlomer_job *chain,
                                           size_t chain_count, uint64_t algorithm)
 {
@@ -239,7 +243,7 @@ static inline int64_t cudlomer_jobs_admit(struct cudlomer_job *jobs, size_t room
  * since the earliest time, then that of the lowest chain. A job is ready since its release or its predecessor's completion, whichever is later,
  * also where a more urgent job interrupts it. `times` is how long each job takes in this run, from its least to its most. Answers CUDLOMER_IDLE
  * where none is ready; CUDLOMER_FINISHED where all were complete before, and the state then stays; else which job ran, for the three functions
- * below. Refuses with 4 to 7, with 8, then with 11 where the state has a time beyond CUDLOMER_LAST_TIME; or a job with more work than its time, or
+ * below. Refuses a bad set, with 8, then with 11 where the state has a time beyond CUDLOMER_LAST_TIME; or a job with more work than its time, or
  * with work though its predecessor is not complete or the time is not after its release; or a complete job whose completion is later than the
  * time or not after its release. */
 static inline int64_t cudlomer_jobs_tick(const struct cudlomer_job *jobs, size_t count, const uint64_t *times, size_t times_count,
@@ -267,7 +271,7 @@ static inline uint64_t cudlomer_ticked_job(int64_t ticked)
     return (uint64_t)ticked % 65536;
 }
 
-/* Runs the set from time 0, with a running time for each job, and writes when each is complete. Answers the end of the run. Refuses with 4 to 7,
+/* Runs the set from time 0, with a running time for each job, and writes when each is complete. Answers the end of the run. Refuses a bad set,
  * with 8, then with 9 where there is not room for a completion for each job. It takes as long as cudlomer_trace. */
 static inline int64_t cudlomer_jobs_run(const struct cudlomer_job *jobs, size_t count, const uint64_t *times, size_t times_count,
                                         uint64_t *completions, size_t room)
@@ -276,7 +280,7 @@ static inline int64_t cudlomer_jobs_run(const struct cudlomer_job *jobs, size_t 
 }
 
 /* Runs the set from time 0, with a running time for each job, and writes a row for each longest run of one job, the earliest first. Answers how
- * many rows were written. Refuses with 4 to 7, with 8, then with 9 where there is not room for two rows for each job. */
+ * many rows were written. Refuses a bad set, with 8, then with 9 where there is not room for two rows for each job. */
 static inline int64_t cudlomer_jobs_trace(const struct cudlomer_job *jobs, size_t count, const uint64_t *times, size_t times_count,
                                           struct cudlomer_row *rows, size_t room)
 {
@@ -286,7 +290,7 @@ static inline int64_t cudlomer_jobs_trace(const struct cudlomer_job *jobs, size_
 
 /* Runs the set from time 0, with a running time for each job, and writes the run into the buffer as a value change dump of IEEE 1364, each line
  * ended by LF: a wire for each job, such as c1j1 for job 1 of chain 1, is 1 while the job runs. Answers how many bytes were written. Refuses
- * with 4 to 7, with 8, then with 9 where the dump does not fit. It takes as long as cudlomer_trace. */
+ * a bad set, with 8, then with 9 where the dump does not fit. It takes as long as cudlomer_trace. */
 static inline int64_t cudlomer_jobs_waveform(const struct cudlomer_job *jobs, size_t count, const uint64_t *times, size_t times_count,
                                              uint8_t *out, size_t out_length)
 {

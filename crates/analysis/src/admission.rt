@@ -28,7 +28,7 @@ fn admitted(verdict: Verdict, old: JobSet, joined: JobSet) -> Admission
     }
 }
 
-// The chain joins as the highest-numbered one; refusals 4 to 7 of the joined records come first, then 10, then the verdict on them.
+// The chain joins as the highest-numbered one; the refusals of the joined records come first, then 10, then the verdict on them.
 pub fn admit(old: JobSet, new: JobSet, algorithm: u64) -> Admission
     ensures { λ r. ⌜ r ≡ admissionOf old new algorithm ⌝ }
 {

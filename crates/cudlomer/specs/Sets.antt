@@ -23,7 +23,7 @@ readCode text memory = onTable text refusalCode (λ js. checkedCode (putCheck js
 unfoldable pub readInto : List ℕ → List ℕ → List ℕ
 readInto text memory = onTable text (λ refusal. memory) (λ js. putFrom js 0 memory)
 
--- How many bounds jobs have by an algorithm: 4 to 7, then 10, then 9.
+-- How many bounds jobs have by an algorithm: the refusals of the set, then 10, then 9.
 unfoldable pub boundsCode : List Job → ℕ → List ℕ → ℤ
 boundsCode js algorithm memory =
     onPass (checkOf js) refusalCode (onBounds (boundsBy js algorithm) refusalCode (λ bounds. checkedCode (roomCheck (length bounds) memory) (length bounds)))
@@ -37,7 +37,7 @@ boundsInto js algorithm memory =
 abbrev pub blocksBy : List Job → ℕ → List ℕ
 blocksBy js algorithm = delaysNumbers (chainsOf js) (delaysBy js algorithm)
 
--- How many they are: 4 to 7, then 10, then 9.
+-- How many they are: the refusals of the set, then 10, then 9.
 unfoldable pub blocksCode : List Job → ℕ → List ℕ → ℤ
 blocksCode js algorithm memory =
     let numbers = blocksBy js algorithm in
@@ -48,7 +48,7 @@ unfoldable pub blocksInto : List Job → ℕ → List ℕ → List ℕ
 blocksInto js algorithm memory =
     onPass (checkOf js) (λ refusal. memory) (onBounds (boundsBy js algorithm) (λ refusal. memory) (λ bounds. written (blocksBy js algorithm) memory))
 
--- How many rounds ITR takes: 4 to 7 come first.
+-- How many rounds ITR takes: the refusals of the set come first.
 unfoldable pub roundsCode : List Job → ℤ
 roundsCode js = checkedCode (checkOf js) (itr (tableOf js) .rounds)
 
@@ -68,7 +68,7 @@ admitInto Verdict.Yes js count memory = putFrom js count memory
 admitInto Verdict.No js count memory = memory
 admitInto (Verdict.Refused refusal) js count memory = memory
 
--- What is checked before a tick: 4 to 7, then 8, then 9 where the state has too few numbers, then 11.
+-- What is checked before a tick: the refusals of the set, then 8, then 9 where the state has too few numbers, then 11.
 unfoldable pub tickCheck : List Job → List ℕ → List ℕ → Check
 tickCheck js times memory =
     andThen (machineCheck js times) (andThen (roomCheck stateSize memory) (stateCheck (tableOf js) times (stateIn memory)))
@@ -82,7 +82,7 @@ unfoldable pub tickInto : List Job → List ℕ → List ℕ → List ℕ
 tickInto js times memory =
     onPass (tickCheck js times memory) (λ refusal. memory) (written (stateNumbers (tickOf js times (stateIn memory) .state)) memory)
 
--- The end of a run: 4 to 7, then 8, then 9 where there is not a number for each job.
+-- The end of a run: the refusals of the set, then 8, then 9 where there is not a number for each job.
 unfoldable pub runCode : List Job → List ℕ → List ℕ → ℤ
 runCode js times memory = let run = runOf js times in checkedCode (andThen (run .check) (roomCheck (length js) memory)) (run .end)
 

@@ -1,48 +1,30 @@
 -- An accepted set is in order and within its limits, and a set that is so is accepted. Assumes nothing.
 use Prim.Native.Nat.{ℕ, zero, suc, _+_, _≤_, _<_}
-use mathlib.Core.Path.{_≡_, refl, sym}
+use mathlib.Core.Path.{_≡_, refl, sym, ap, _∙_}
 use mathlib.Core.Bool.{Bool, true, false}
 use mathlib.Core.List.{List, [], _∷_, _++_}
-use mathlib.Core.Logic.{_⊎_, inl, inr}
+use mathlib.Core.Logic.{inl, inr}
 use native.Mathlib.Omega.{arith}
 use native.Mathlib.Numerals.{add-one}
 use lib.ListN.{length, take, drop}
 use lib.Seq.{take-suc, drop-cons, length-take-le}
 use lib.Dec.{leb, ltb, eqb}
-use borrow.Author.Tests.{leb-true, leb-false, ltb-true, eqb-true, eq-eqb, ne-eqb, le-leb, lt-ltb}
+use borrow.Author.Tests.{leb-true, leb-false, ltb-true, eqb-true, eq-eqb, ne-eqb, lt-ltb}
 use Rattle.laws.specs.Words.{lastOf}
-use Rattle.laws.proofs.Tests.{by-test, and-left, and-right, and-parts}
+use Rattle.laws.proofs.Tests.{by-test, and-left, and-right}
 use Rattle.jobs.specs.declared.job.Job.{Job}
 use Rattle.jobs.specs.declared.refusal.Refusal.{Refusal}
 use Rattle.jobs.specs.declared.refusal.Check.{Check}
 use Rattle.jobs.specs.declared.refusal.Check.the-variants.{Passed}
-use Rattle.jobs.specs.Limits.{maxJobs, maxChains, maxRelease, maxPriority, maxTime, maxDeadline}
+use Rattle.jobs.specs.Limits.{maxJobs}
 use Rattle.jobs.specs.Refusals.{unless}
 use Rattle.jobs.specs.Jobs.{noJob, jobAt}
-use Rattle.jobs.specs.Checks.{isNext, inLimits, recordCheck, recordsCheck, anyRecord, checkOf}
+use Rattle.jobs.specs.Checks.{isNext, recordCheck, recordsCheck, anyRecord, checkOf}
+use Rattle.jobs.specs.Claims.{withinLimits, plainCheck, asSix}
+pub use Rattle.jobs.specs.Accepted.{Follows, Limited, Accepted}
+use Rattle.jobs.proofs.Limits.{limited, limited-within}
+use Rattle.jobs.proofs.Six.{read-as-six, six-passed}
 use Rattle.jobs.proofs.Checks.{then-first, then-second, nextCheck, last-take, Reached, reached-start, reached-next, reached-end, any-some, check-passed}
-
--- The order of two neighbours: the chain goes on with its next job, or the next chain begins with its first.
-abbrev pub Follows : Job → Job → Type 0
-Follows i j = ((j .chain ≡ i .chain) × (j .job ≡ i .job + 1)) ⊎ ((j .chain ≡ i .chain + 1) × (j .job ≡ 1))
-
--- The limits of one job.
-pub record Limited (j : Job) : Type 0 where
-  pub chains : j .chain ≤ maxChains
-  pub release : j .release ≤ maxRelease
-  pub priority : j .priority ≤ maxPriority
-  pub positive : 1 ≤ j .least
-  pub range : j .least ≤ j .most
-  pub time : j .most ≤ maxTime
-  pub deadline : j .deadline ≤ maxDeadline
-
--- What holds of the jobs of an accepted set, place by place from 0.
-pub record Accepted (js : List Job) : Type 0 where
-  pub some : 0 < length js
-  pub few : length js ≤ maxJobs
-  pub first : (jobAt js 0 .chain ≡ 1) × (jobAt js 0 .job ≡ 1)
-  pub order : (i : ℕ) → suc i < length js → Follows (jobAt js i) (jobAt js (suc i))
-  pub limits : (i : ℕ) → i < length js → Limited (jobAt js i)
 
 -- ---- a record that passes
 unless-test : (b : Bool) (r : Refusal) (later : Check) → unless b r later ≡ Passed → b ≡ true
@@ -56,22 +38,22 @@ unless-later false r later e = let z : _≡_ {A = ℕ} 0 1 = cc in absurd (omega
 pub record Fine (n : ℕ) (last j : Job) : Type 0 where
   pub room : n < maxJobs
   pub next : isNext n last j ≡ true
-  pub within : inLimits j ≡ true
+  pub within : withinLimits j ≡ true
 
 pub record-fine : (n : ℕ) (last j : Job) → recordCheck n last j ≡ Passed → Fine n last j
-unfolding recordCheck
-record-fine n last j e =
+record-fine n last j p =
+    let e : plainCheck n last j ≡ Passed = sym (read-as-six n last j) ∙ ap asSix p in
     let f = unless-later (ltb n maxJobs) _ _ e in
     let g = unless-later (isNext n last j) _ _ f in
     record {
       room = ltb-true n maxJobs (unless-test (ltb n maxJobs) _ _ e);
       next = unless-test (isNext n last j) _ _ f;
-      within = unless-test (inLimits j) _ _ g;
+      within = unless-test (withinLimits j) _ _ g;
     }
 
 pub fine-record : (n : ℕ) (last j : Job) → Fine n last j → recordCheck n last j ≡ Passed
-unfolding recordCheck
-fine-record n last j f = rw (lt-ltb n maxJobs (f .room), f .next, f .within)
+fine-record n last j f =
+    six-passed (recordCheck n last j) (read-as-six n last j ∙ rw (lt-ltb n maxJobs (f .room), f .next, f .within))
 
 -- ---- order
 follows : (n : ℕ) (i j : Job) → isNext (suc n) i j ≡ true → Follows i j
@@ -87,26 +69,6 @@ first-next : (last j : Job) → isNext 0 last j ≡ true → (j .chain ≡ 1) ×
 unfolding isNext
 first-next last j e =
     (eqb-true (j .chain) 1 (and-left _ (eqb (j .job) 1) e), eqb-true (j .job) 1 (and-right (eqb (j .chain) 1) _ e))
-
--- ---- limits
-limited : (j : Job) → inLimits j ≡ true → Limited j
-unfolding inLimits
-limited j e =
-    let deadline = and-parts e in
-    let time = and-parts (deadline .0) in
-    let range = and-parts (time .0) in
-    let positive = and-parts (range .0) in
-    let priority = and-parts (positive .0) in
-    let release = and-parts (priority .0) in
-    record {
-      chains = leb-true (j .chain) maxChains (release .0);
-      release = leb-true (j .release) maxRelease (release .1);
-      priority = leb-true (j .priority) maxPriority (priority .1);
-      positive = leb-true 1 (j .least) (positive .1);
-      range = leb-true (j .least) (j .most) (range .1);
-      time = leb-true (j .most) maxTime (time .1);
-      deadline = leb-true (j .deadline) maxDeadline (deadline .1);
-    }
 
 -- ---- all records
 pub passes : (js : List Job) → recordsCheck [] js ≡ Passed → (n : ℕ) → n ≤ length js → recordsCheck (take n js) (drop n js) ≡ Passed
@@ -156,19 +118,6 @@ job-place js ok zero l = omega (arith, ok .first .1)
 job-place js ok (suc i) l = elim (ok .order i l) [ inl e ↦ omega (arith, e .1, job-place js ok i (omega arith)) | inr e ↦ omega (arith, e .1) ]
 
 -- ---- a set in order and within its limits is accepted
-limited-within : (j : Job) → Limited j → inLimits j ≡ true
-unfolding inLimits
-limited-within j l =
-    rw (
-      le-leb (j .chain) maxChains (l .chains),
-      le-leb (j .release) maxRelease (l .release),
-      le-leb (j .priority) maxPriority (l .priority),
-      le-leb 1 (j .least) (l .positive),
-      le-leb (j .least) (j .most) (l .range),
-      le-leb (j .most) maxTime (l .time),
-      le-leb (j .deadline) maxDeadline (l .deadline),
-    )
-
 follows-next : (n : ℕ) (i j : Job) → Follows i j → isNext (suc n) i j ≡ true
 unfolding isNext
 follows-next n i j (inl e) = rw (ne-eqb (suc n) 0 (λ z. omega arith), eq-eqb (j .chain) (i .chain) (e .0), eq-eqb (j .job) (i .job + 1) (e .1))

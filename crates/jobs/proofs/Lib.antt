@@ -3,7 +3,10 @@ pub mod Held
 pub mod MostTimes
 pub mod Search
 pub mod Checks
+pub mod Limits
+pub mod Six
 pub mod Accepted
 pub mod Joins
 pub mod Places
 pub mod Chains
+pub mod Claims

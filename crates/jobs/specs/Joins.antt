@@ -16,7 +16,7 @@ numbered c k (j ∷ js) = renumbered c k j ∷ numbered c (k + 1) js
 unfoldable pub withChain : List Job → List Job → List Job
 withChain old new = old ++ numbered (lastOf noJob old .chain + 1) 1 new
 
--- 4 to 6 over the joined records, then 7 where there is no new one.
+-- The checks of the joined records, then 7 where there is no new one.
 unfoldable pub joinCheck : List Job → List Job → Check
 joinCheck old new = andThen (recordsCheck [] (withChain old new)) (anyRecord new)
 

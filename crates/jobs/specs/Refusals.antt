@@ -1,4 +1,4 @@
--- The refusals and their numbers, and checks in sequence. Document 01, "Numbers of refusal, in checking order". Assumes nothing.
+-- The refusals and their numbers, and checks in sequence. Document 01, "Numbers of refusal, in checking order"; document 02, R-4. Assumes nothing.
 use Rattle.laws.specs.Words.{ℕ, Bool, true, false}
 use Rattle.jobs.specs.declared.{refusal.Refusal.Refusal, refusal.Check.Check}
 
@@ -15,6 +15,9 @@ numberOf Refusal.RunningTimes = 8
 numberOf Refusal.ShortBuffer = 9
 numberOf Refusal.UnknownAlgorithm = 10
 numberOf Refusal.ImpossibleState = 11
+numberOf Refusal.PriorityOutOfLimits = 12
+numberOf Refusal.LeastOrMostOutOfLimits = 13
+numberOf Refusal.LeastAboveMost = 14
 
 -- One check in a sequence: the refusal where the test fails, else what the checks after it come to.
 abbrev pub unless : Bool → Refusal → Check → Check

@@ -7,7 +7,7 @@ use crate::refusal::Check;
 use crate::refusal::Refusal;
 use crate::set::JobSet;
 
-// Refusals 4 to 6 record by record, the first bad record deciding.
+// The check of each record in turn, the first bad one deciding.
 pub(crate) fn check_records(set: JobSet) -> Check
     ensures { λ r. ⌜ r ≡ recordsCheck [] (jobsOf set) ⌝ }
 {

@@ -83,7 +83,7 @@ fn append(old: JobSet, new: JobSet) -> Joined
     }
 }
 
-// Refusals 4 to 6 over the joined records, in order, then 7 where the new chain is empty.
+// The checks of the joined records, the first bad one deciding, then 7 where the new chain is empty.
 pub fn join(old: JobSet, new: JobSet) -> Joined
     ensures { λ r. ⌜ r ≡ joinOf old new ⌝ }
 {

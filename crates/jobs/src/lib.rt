@@ -8,3 +8,4 @@ pub mod place;
 pub mod record;
 pub mod refusal;
 pub mod set;
+mod values;

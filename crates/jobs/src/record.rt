@@ -1,10 +1,11 @@
-// The checks of one record, refusals 4 to 6: how many there are, its place in the order, and its limits.
+// The check of one record, refusals 4 to 6 and 12 to 14: how many there are, its place in the order, and its values.
 ghost use Rattle.laws.specs.Words.{_≡_, _+_, eqb};
-ghost use Rattle.jobs.specs.Checks.{isNext, inLimits, recordCheck};
+ghost use Rattle.jobs.specs.Checks.{isNext, recordCheck};
 use crate::job::Job;
 use crate::refusal::Check;
 use crate::refusal::Refusal;
 use crate::set::JobSet;
+use crate::values::check_values;
 
 // Whether a number is one more than another, with no sum that could wrap.
 fn is_one_more(number: u64, before: u64) -> bool
@@ -29,19 +30,6 @@ fn is_next(n: usize, last: Job, job: Job) -> bool
     is_one_more(job.chain, last.chain) & (job.job == 1)
 }
 
-// Whether a job's chain number and values are within their limits.
-fn in_limits(job: Job) -> bool
-    ensures { λ r. ⌜ r ≡ inLimits job ⌝ }
-{
-    (job.chain <= JobSet::MAX_CHAINS)
-        & (job.release <= Job::MAX_RELEASE)
-        & (job.priority <= Job::MAX_PRIORITY)
-        & (1 <= job.least)
-        & (job.least <= job.most)
-        & (job.most <= Job::MAX_TIME)
-        & (job.deadline <= Job::MAX_DEADLINE)
-}
-
 // The check of a record that comes after n others, the last of which is last.
 pub fn check_record(n: usize, last: Job, job: Job) -> Check
     ensures { λ r. ⌜ r ≡ recordCheck n last job ⌝ }
@@ -52,8 +40,5 @@ pub fn check_record(n: usize, last: Job, job: Job) -> Check
     if !is_next(n, last, job) {
         return Check::Refused(Refusal::OutOfOrder);
     }
-    if !in_limits(job) {
-        return Check::Refused(Refusal::OutOfLimits);
-    }
-    Check::Passed
+    check_values(job)
 }

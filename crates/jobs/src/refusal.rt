@@ -14,6 +14,9 @@ pub enum Refusal {
     ShortBuffer,
     UnknownAlgorithm,
     ImpossibleState,
+    PriorityOutOfLimits,
+    LeastOrMostOutOfLimits,
+    LeastAboveMost,
 }
 
 impl Refusal {
@@ -32,6 +35,9 @@ impl Refusal {
             Refusal::ShortBuffer => 9,
             Refusal::UnknownAlgorithm => 10,
             Refusal::ImpossibleState => 11,
+            Refusal::PriorityOutOfLimits => 12,
+            Refusal::LeastOrMostOutOfLimits => 13,
+            Refusal::LeastAboveMost => 14,
         }
     }
 }

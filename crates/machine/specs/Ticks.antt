@@ -71,7 +71,7 @@ tickOf js times s =
       state = next t times s;
     }
 
--- What the machine's operations check of a set and its running times: 4 to 7, then 8.
+-- What the machine's operations check of a set and its running times: the refusals of the set, then 8.
 unfoldable pub machineCheck : List Job → List ℕ → Check
 machineCheck js times = andThen (checkOf js) (unless (timesFit (tableOf js) times) Refusal.RunningTimes Check.Passed)
 
@@ -96,7 +96,7 @@ possible t times s u =
 unfoldable pub stateCheck : Table → List ℕ → State → Check
 stateCheck t times s = unless (leb (s .time) lastTime && everyBelow (t .count) (possible t times s)) Refusal.ImpossibleState Check.Passed
 
--- The answer and the state after a tick, or the refusal, of numbers 4 to 7, then 8, then 11, and the state as it was.
+-- The answer and the state after a tick, or the refusal, of the set, then 8, then 11, and the state as it was.
 unfoldable pub stepOf : List Job → List ℕ → State → Stepped
 stepOf js times s =
     let check = andThen (machineCheck js times) (stateCheck (tableOf js) times s) in

@@ -44,7 +44,7 @@ fn run_through(set: JobSet, times: &[u64]) -> Completed
     }
 }
 
-// Refusals 4 to 7, then 8, then the run from time 0 until all jobs are complete.
+// The refusals of the set, then 8, then the run from time 0 until all jobs are complete.
 pub fn run(set: JobSet, times: &[u64]) -> Completed
     ensures { λ r. ⌜ r ≡ runOf (jobsOf set) (now (times .entry)) ⌝ }
 {

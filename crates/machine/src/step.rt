@@ -70,7 +70,7 @@ fn advance<'a>(state: State, set: JobSet, columns: &'a Columns, times: &'a [u64]
     }
 }
 
-// One tick: refusals 4 to 7, 8 and 11, then finished; on all of these the state is as before.
+// One tick: the refusals of the set, 8 and 11, then finished; on all of these the state is as before.
 pub fn step(state: State, set: JobSet, times: &[u64]) -> Stepped
     ensures { λ r. ⌜ r ≡ stepOf (jobsOf set) (now (times .entry)) state ⌝ }
 {

@@ -31,7 +31,7 @@ fn are_fitting(set: JobSet, times: &[u64]) -> bool
     true
 }
 
-// Refusals 4 to 7 for the set, then 8.
+// The refusals of the set, then 8.
 pub fn check_times(set: JobSet, times: &[u64]) -> Check
     ensures { λ r. ⌜ r ≡ machineCheck (jobsOf set) (now (times .entry)) ⌝ }
 {

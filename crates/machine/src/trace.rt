@@ -106,7 +106,7 @@ fn write_entries(set: JobSet, times: &[u64], out: &mut [u64]) -> usize
     entries
 }
 
-// Refusals 4 to 7, then 8, then 9, then the entries of the run from time 0, four numbers each.
+// The refusals of the set, then 8, then 9, then the entries of the run from time 0, four numbers each.
 pub fn trace(set: JobSet, times: &[u64], out: &mut [u64]) -> Traced
     ensures { λ r. ⌜ (r ≡ traceOf (jobsOf set) (now (times .entry)) (length (now (out .entry)))) × (now (out .exit) ≡ tracedIn (jobsOf set) (now (times .entry)) (now (out .entry))) ⌝ }
 {

@@ -18,7 +18,7 @@ tableRow j = pos (j .chain) ∷ pos (j .job) ∷ pos (j .release) ∷ pos (j .pr
 unfoldable pub tableText : List Job → List ℕ
 tableText js = header ++ ascii "\r\n" ++ linesText (map tableRow js)
 
--- The answer to writing the text of a set's jobs into a buffer: the refusals of the set come first, 4 to 7, then 9.
+-- The answer to writing the text of a set's jobs into a buffer: the refusals of the set come first, then 9.
 unfoldable pub tableAnswer : List Job → List ℕ → Written
 tableAnswer js buffer = onPass (checkOf js) Written.Refused (answerTo (tableText js) buffer)
 

@@ -63,7 +63,7 @@ fn write_jobs(set: JobSet, out: &mut [u8], at: usize) -> usize
     next
 }
 
-// The table of a set: refusals 4 to 7 first, then 9; the length is worked out first, so that a short buffer stays as it was.
+// The table of a set: the refusals of the set first, then 9; the length is worked out first, so that a short buffer stays as it was.
 pub fn table_text(set: JobSet, out: &mut [u8]) -> Written
     ensures { λ r. ⌜ (r ≡ tableAnswer (jobsOf set) (now (out .entry))) × (now (out .exit) ≡ tableLeft (jobsOf set) (now (out .entry))) ⌝ }
 {

@@ -1,4 +1,4 @@
--- A whole job table. Document 01, "A job table", and numbers 1 to 7. Assumes nothing.
+-- A whole job table. Document 01, "A job table", and numbers 1 to 7; document 02, R-4. Assumes nothing.
 use Rattle.laws.specs.Words.{ℕ, cond, _&&_, none, some, List, [], _∷_, _++_, leb, eqb, length, getD, sameUpTo, lastOf, ascii}
 use Rattle.jobs.specs.declared.{job.Job.Job, refusal.Refusal.Refusal, refusal.Check.Check}
 use Rattle.jobs.specs.{Refusals.onPass, Jobs.job, Jobs.noJob, Jobs.jobsOf, Jobs.setOf, Checks.recordCheck, Checks.anyRecord}
@@ -20,7 +20,7 @@ jobOf values = let at = getD values in job (at 0 0) (at 1 0) (at 2 0) (at 3 0) (
 abbrev pub refusedWith : Refusal → Reading
 refusedWith refusal = record { check = Check.Refused refusal; set = setOf [] }
 
--- 3 to 6 line by line after the records before, the first bad line deciding, then 7.
+-- 3 and the check of the record, line by line after the records before, the first bad line deciding, then 7.
 unfoldable pub recordsFrom : List Job → List (List ℕ) → Reading
 recordsFrom before [] = record { check = anyRecord before; set = setOf before }
 recordsFrom before (line ∷ lines) =

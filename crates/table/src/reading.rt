@@ -46,7 +46,7 @@ fn job_of(values: [u64; MAX_COLUMNS]) -> Job
     }
 }
 
-// The records of the lines of rest: refusals 3 to 6 line by line, the first bad line deciding, then 7.
+// The records of the lines of rest: 3 and the check of the record, line by line, the first bad line deciding, then 7.
 fn read_records(rest: &[u8]) -> Reading
     ensures { λ r. ⌜ r ≡ recordsFrom [] (linesOf (now (rest .entry))) ⌝ }
 {

@@ -11,7 +11,7 @@ use Rattle.laws.proofs.Tests.{by-test}
 use Rattle.decimal.specs.Digits.{digitCount, decimal}
 use Rattle.decimal.proofs.Writing.{length-fits, length-short}
 use Rattle.jobs.specs.declared.refusal.Refusal.{Refusal}
-use Rattle.jobs.specs.declared.refusal.Refusal.the-variants.{TextTooLong, NotHeader, MalformedLine, TooManyRecords, OutOfOrder, OutOfLimits, NoRecord, RunningTimes, ShortBuffer, UnknownAlgorithm, ImpossibleState}
+use Rattle.jobs.specs.declared.refusal.Refusal.the-variants.{TextTooLong, NotHeader, MalformedLine, TooManyRecords, OutOfOrder, OutOfLimits, NoRecord, RunningTimes, ShortBuffer, UnknownAlgorithm, ImpossibleState, PriorityOutOfLimits, LeastOrMostOutOfLimits, LeastAboveMost}
 use Rattle.jobs.specs.Refusals.{numberOf}
 use Rattle.texts.specs.Answers.{refusedText}
 use Rattle.texts.proofs.WordDigits.{word-digits}
@@ -26,7 +26,7 @@ pub refused-pieces : (refusal : Refusal) (number : ℕ) → number ≡ numberOf 
 unfolding refusedText
 refused-pieces refusal number e = rw e refl
 
-number-within : (refusal : Refusal) → numberOf refusal ≤ 11
+number-within : (refusal : Refusal) → numberOf refusal ≤ 99
 number-within TextTooLong = omega arith
 number-within NotHeader = omega arith
 number-within MalformedLine = omega arith
@@ -38,6 +38,9 @@ number-within RunningTimes = omega arith
 number-within ShortBuffer = omega arith
 number-within UnknownAlgorithm = omega arith
 number-within ImpossibleState = omega arith
+number-within PriorityOutOfLimits = omega arith
+number-within LeastOrMostOutOfLimits = omega arith
+number-within LeastAboveMost = omega arith
 
 -- the line is short, whether it was written or not
 pub refused-short : (refusal : Refusal) (buffer : List ℕ) {n : ℕ} → n ≡ writtenLength (refusedText refusal) buffer → n ≤ 30

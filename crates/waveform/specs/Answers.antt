@@ -1,4 +1,4 @@
--- What the writer of a waveform answers. Document 02, R-1, and numbers 4 to 9. Assumes nothing.
+-- What the writer of a waveform answers. Document 02, R-1. Assumes nothing.
 use Rattle.laws.specs.Words.{ℕ, List, written}
 use Rattle.jobs.specs.{declared.job.Job.Job, Refusals.onPass}
 use Rattle.machine.specs.Ticks.{machineCheck}

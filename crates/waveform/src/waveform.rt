@@ -32,7 +32,7 @@ fn write_dump(set: JobSet, numbers: &[u64], entries: usize, out: &mut [u8]) -> W
     Written::Bytes(length as u32)
 }
 
-// The waveform of a set's run with these running times: refusals 4 to 7 first, then 8, then 9.
+// The waveform of a set's run with these running times: the refusals of the set first, then 8, then 9.
 pub fn write_waveform(set: JobSet, times: &[u64], out: &mut [u8]) -> Written
     ensures { λ r. ⌜ r ≡ waveformAnswer (jobsOf set) (now (times .entry)) (now (out .entry)) ⌝ }
     ensures { λ _. ⌜ now (out .exit) ≡ waveformLeft (jobsOf set) (now (times .entry)) (now (out .entry)) ⌝ }

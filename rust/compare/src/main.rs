@@ -4,6 +4,7 @@ mod admission;
 mod blocks;
 mod damage;
 mod draw;
+mod faults;
 mod machine;
 mod sets;
 mod side;
@@ -26,6 +27,7 @@ fn main() {
     let mut tally = Tally::default();
     let mut draw = Draw::from_seed(2026);
     waveform::compare_longest(&mut tally);
+    faults::compare(&mut tally);
     for kind in Kind::ALL {
         for _ in 0..kind.tables() {
             let jobs = draw.jobs(kind);

@@ -5,7 +5,7 @@ use std::collections::BTreeMap;
 use std::fmt::Debug;
 
 /// The numbers of refusals go up to this.
-const REFUSALS: usize = 11;
+const REFUSALS: usize = 14;
 
 /// So many disagreements are printed.
 const PRINTED: u64 = 20;

@@ -29,28 +29,16 @@ mod delays;
 pub mod ffi;
 mod job;
 mod machine;
+mod refused;
 mod set;
 mod text;
 
 pub use delays::{Block, Delays};
 pub use job::Job;
 pub use machine::{Row, Run, State, Ticked, Times, Trace};
+pub use refused::Refused;
 pub use set::{Algorithm, Set, Verdict};
 pub use text::{bounds, rounds, trace, verdict};
-
-use core::fmt;
-
-/// The number of a refusal.
-#[derive(Clone, Copy, Debug, PartialEq, Eq)]
-pub struct Refused(pub u8);
-
-impl fmt::Display for Refused {
-    fn fmt(&self, f: &mut fmt::Formatter) -> fmt::Result {
-        write!(f, "refused with {}", self.0)
-    }
-}
-
-impl core::error::Error for Refused {}
 
 /// What a function answers: a number, or a refusal negated.
 fn answer(value: i64) -> Result<u64, Refused> {

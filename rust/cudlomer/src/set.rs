@@ -28,7 +28,7 @@ impl Verdict {
     }
 }
 
-/// A set of jobs that has passed the checks 4 to 6, chain by chain. Where it is empty, everything but admission is refused with 7.
+/// A set of jobs that have passed the checks, chain by chain. Where it is empty, everything but admission is refused with 7.
 #[derive(Clone, Copy, Debug, PartialEq, Eq)]
 pub struct Set {
     jobs: [Job; Set::MAX_JOBS],
@@ -48,7 +48,7 @@ impl Set {
     /// The set of no job, which a first chain may join.
     pub const EMPTY: Set = Set { jobs: [Job::NONE; Set::MAX_JOBS], count: 0 };
 
-    /// The set of these jobs; refuses with 4 to 7.
+    /// The set of these jobs; refuses the first bad one, or with 7 where there is none.
     pub fn of(jobs: &[Job]) -> Result<Set, Refused> {
         // The function reads within the slice; jobs that pass are refused for the algorithm 0, which there is not.
         let checked = unsafe { ffi::cudlomer_set_verdict(jobs.as_ptr().cast(), jobs.len() * Job::NUMBERS, 0) };
@@ -60,7 +60,7 @@ impl Set {
         Ok(set)
     }
 
-    /// The set of a table; refuses with 1 to 7.
+    /// The set of a table; refuses a text that is none.
     pub fn read(text: &[u8]) -> Result<Set, Refused> {
         let mut set = Set::EMPTY;
         // The function reads within the slice and writes within the array, whose jobs are plain numbers.
@@ -81,7 +81,7 @@ impl Set {
     }
 
     /// Whether all deadlines are met by the algorithm with a further chain, which on yes is the set's last; its jobs' own chain and job numbers are
-    /// ignored. Refuses with 4 to 6 of the joined jobs, and with 7 where the chain has none.
+    /// ignored. Refuses the first bad one of the joined jobs, then with 7 where the chain has none.
     pub fn admit(&mut self, chain: &[Job], algorithm: Algorithm) -> Result<Verdict, Refused> {
         let (room, held) = (Set::MAX_JOBS * Job::NUMBERS, self.count as u64);
         let (further, length) = (chain.as_ptr().cast(), chain.len() * Job::NUMBERS);

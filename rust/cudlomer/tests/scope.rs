@@ -117,7 +117,6 @@ fn refusals() {
     let times = set.times(|job| job.most);
     assert_eq!(Set::read(b""), Err(Refused(2)));
     assert_eq!(Set::of(&[p4(12); 65]), Err(Refused(5)));
-    assert_eq!(Set::of(&[Job { least: 0, ..p4(12) }]), Err(Refused(6)));
     assert_eq!((Set::of(&[]), Set::EMPTY.rounds()), (Err(Refused(7)), Err(Refused(7))));
     assert_eq!(Set::EMPTY.blocks(Algorithm::Itr), Err(Refused(7)));
     assert_eq!(set.run(&set.times(|job| job.most + 1)), Err(Refused(8)));
@@ -125,6 +124,37 @@ fn refusals() {
     let mut late = State { time: State::LAST_TIME + 1, ..State::START };
     assert_eq!(set.tick(&times, &mut late), Err(Refused(11)));
     assert_eq!((set.tick(&times, &mut State::START.clone()), Refused(11).to_string()), (Ok(Ticked::Idle), "refused with 11".to_owned()));
+}
+
+/// Each tool knows its own fault: that of the priorities 12, that of the running times 13 and 14.
+#[test]
+fn refusals_of_values() {
+    let of = |job| Set::of(&[job]);
+    let both = Job { priority: 256, ..p4(4_000_000_001) };
+    assert_eq!([of(p4(4_000_000_001)), of(both)], [Err(Refused::OUT_OF_LIMITS); 2]);
+    let slow = Job { priority: 256, most: 0, ..p4(12) };
+    assert_eq!([of(Job { priority: 256, ..p4(12) }), of(slow)], [Err(Refused::PRIORITY_OUT_OF_LIMITS); 2]);
+    let times = |least, most| Job { least, most, ..p4(12) };
+    let outside = [(0, 7), (1, 0), (1, 1_000_001), (1_000_001, 1)].map(|(least, most)| of(times(least, most)));
+    assert_eq!(outside, [Err(Refused::LEAST_OR_MOST_OUT_OF_LIMITS); 4]);
+    assert_eq!(of(times(2, 1)), Err(Refused::LEAST_ABOVE_MOST));
+    let mut set = of(p4(12)).unwrap();
+    assert_eq!((set.admit(&[times(2, 1)], Algorithm::Itr), set), (Err(Refused::LEAST_ABOVE_MOST), of(p4(12)).unwrap()));
+}
+
+/// The names are those of the header.
+#[test]
+fn refusals_are_named() {
+    let header = include_str!("../../../include/cudlomer.h");
+    let wrapper = include_str!("../src/refused.rs");
+    let named = |line: &str| line.trim().strip_prefix("CUDLOMER_").and_then(|rest| rest.split([',', '/']).next()).map(|name| name.trim().to_owned());
+    let body = header.split("enum cudlomer_refusal {").nth(1).unwrap().split("};").next().unwrap();
+    let names: Vec<String> = body.lines().filter_map(named).collect();
+    assert_eq!(names.len(), 14);
+    for name in names {
+        let (name, number) = name.split_once(" = ").unwrap();
+        assert!(wrapper.contains(&format!("pub const {name}: Refused = Refused({number});")), "{name}");
+    }
 }
 
 /// P4, complete at 20, is completed after its release at 5 and not after 20.

@@ -35,7 +35,7 @@ pub struct Span {
     pub to: u64,
 }
 
-/// Numbers 4 to 7 of the set, then 8: one running time for each job, from its least to its most.
+/// The refusals of the set, then 8: one running time for each job, from its least to its most.
 pub fn check(jobs: &[Job], times: &[u64]) -> Result<(), u8> {
     set::check(jobs)?;
     let fits = times.len() == jobs.len() && jobs.iter().zip(times).all(|(j, time)| (j.least..=j.most).contains(time));

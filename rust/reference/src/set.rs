@@ -2,7 +2,7 @@
 
 use crate::{bounds, Job};
 
-/// Numbers 4 to 6 for a record that comes after others.
+/// The refusals of a record that comes after others, in their order.
 pub fn check_record(before: &[Job], job: &Job) -> Result<(), u8> {
     if before.len() >= 64 {
         return Err(4);
@@ -10,13 +10,22 @@ pub fn check_record(before: &[Job], job: &Job) -> Result<(), u8> {
     if !next_in_order(before.last(), job) {
         return Err(5);
     }
-    if !within_limits(job) {
+    if job.chain > 16 || job.release > 1_000_000_000 || job.deadline > 4_000_000_000 {
         return Err(6);
+    }
+    if job.priority > 255 {
+        return Err(12);
+    }
+    if [job.least, job.most].iter().any(|time| !(1..=1_000_000).contains(time)) {
+        return Err(13);
+    }
+    if job.least > job.most {
+        return Err(14);
     }
     Ok(())
 }
 
-/// Numbers 4 to 6 record by record, then 7.
+/// The refusals of the first bad record, then 7.
 pub fn check(jobs: &[Job]) -> Result<(), u8> {
     check_records(jobs)?;
     any_record(jobs)
@@ -58,15 +67,6 @@ fn next_in_order(last: Option<&Job>, job: &Job) -> bool {
     }
 }
 
-fn within_limits(j: &Job) -> bool {
-    j.chain <= 16
-        && j.release <= 1_000_000_000
-        && j.priority <= 255
-        && (1..=j.most).contains(&j.least)
-        && j.most <= 1_000_000
-        && j.deadline <= 4_000_000_000
-}
-
 #[cfg(test)]
 mod tests {
     use super::*;
@@ -78,12 +78,21 @@ mod tests {
     fn limits_of_a_set() {
         assert_eq!(check(&[]), Err(7));
         assert_eq!(check(&[P4]), Ok(()));
-        assert_eq!(check(&[Job { release: 1_000_000_000, ..P4 }]), Ok(()));
-        assert_eq!(check(&[Job { release: 1_000_000_001, ..P4 }]), Err(6));
-        assert_eq!(check(&[Job { least: 0, ..P4 }]), Err(6));
         assert_eq!(check(&[P4, Job { job: 3, ..P4 }]), Err(5));
         let many: Vec<Job> = (1..=65).map(|job| Job { job, ..P4 }).collect();
         assert_eq!((check(&many[..64]), check(&many)), (Ok(()), Err(4)));
+    }
+
+    #[test]
+    fn limits_of_values() {
+        let checked = |release, priority, least, most, deadline| check(&[Job { release, priority, least, most, deadline, ..P4 }]);
+        assert_eq!(checked(1_000_000_000, 255, 1_000_000, 1_000_000, 4_000_000_000), Ok(()));
+        assert_eq!(checked(0, 0, 1, 1, 0), Ok(()));
+        assert_eq!([checked(1_000_000_001, 0, 1, 1, 0), checked(0, 0, 1, 1, 4_000_000_001), checked(0, 256, 1, 1, 4_000_000_001)], [Err(6); 3]);
+        assert_eq!([checked(0, 256, 1, 1, 0), checked(0, 256, 0, 1, 0), checked(0, 256, 2, 1, 0)], [Err(12); 3]);
+        assert_eq!([checked(0, 0, 0, 1, 0), checked(0, 0, 1, 0, 0), checked(0, 0, 0, 0, 0)], [Err(13); 3]);
+        assert_eq!([checked(0, 0, 1, 1_000_001, 0), checked(0, 0, 1_000_001, 1, 0)], [Err(13); 2]);
+        assert_eq!([checked(0, 0, 2, 1, 0), checked(0, 0, 1_000_000, 999_999, 0)], [Err(14); 2]);
     }
 
     #[test]

@@ -18,19 +18,16 @@ returns-2 : tie.Need-returns-2
 unfolding recordCheck
 returns-2 c = simp (lt-ltb _ _ (c .before .before .if1 .left), sym (c .before .is-next .ensures) ∙ not-true _ (c .if2 .taken))
 
-in-limits-requires : tie.Need-in-limits-requires
-in-limits-requires c κs = search needs
+check-values-requires : tie.Need-check-values-requires
+check-values-requires c κs = search needs
 
 returns-3 : tie.Need-returns-3
 unfolding recordCheck
 returns-3 c =
-    simp (lt-ltb _ _ (c .before .before .before .before .if1 .left), sym (c .before .before .before .is-next .ensures) ∙ not-false _ (c .before .before .if2 .left), sym (c .before .in-limits .ensures) ∙ not-true _ (c .if3 .taken))
-
-returns-4 : tie.Need-returns-4
-unfolding recordCheck
-returns-4 c =
-    simp (lt-ltb _ _ (c .before .before .before .before .if1 .left), sym (c .before .before .before .is-next .ensures) ∙ not-false _ (c .before .before .if2 .left), sym (c .before .in-limits .ensures) ∙ not-false _ (c .if3 .left))
+    let at-order = c .before in
+    let room = lt-ltb _ _ (at-order .before .before .if1 .left) in
+    simp (room, sym (at-order .before .is-next .ensures) ∙ not-false _ (at-order .if2 .left))
+    (c .check-values .ensures)
 
 pub check-record-spec : {M : Type 1} → statement M
-check-record-spec =
-    tie.close (tie.spec returns is-next-requires returns-2 in-limits-requires returns-3 returns-4)
+check-record-spec = tie.close (tie.spec returns is-next-requires returns-2 check-values-requires returns-3)

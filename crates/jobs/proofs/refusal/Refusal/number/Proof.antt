@@ -38,6 +38,15 @@ enum-told-10 c = search needs
 enum-told-11 : tie.Need-enum-told-11
 enum-told-11 c = search needs
 
+enum-told-12 : tie.Need-enum-told-12
+enum-told-12 c = search needs
+
+enum-told-13 : tie.Need-enum-told-13
+enum-told-13 c = search needs
+
+enum-told-14 : tie.Need-enum-told-14
+enum-told-14 c = search needs
+
 returns : tie.Need-returns
 returns c = ap numberOf (sym (c .enum-told .given .1))
 
@@ -71,6 +80,15 @@ returns-10 c = ap numberOf (sym (c .enum-told10 .given .1))
 returns-11 : tie.Need-returns-11
 returns-11 c = ap numberOf (sym (c .enum-told11 .given .1))
 
+returns-12 : tie.Need-returns-12
+returns-12 c = ap numberOf (sym (c .enum-told12 .given .1))
+
+returns-13 : tie.Need-returns-13
+returns-13 c = ap numberOf (sym (c .enum-told13 .given .1))
+
+returns-14 : tie.Need-returns-14
+returns-14 c = ap numberOf (sym (c .enum-told14 .given .1))
+
 pub number-spec : {M : Type 1} → statement M
 number-spec =
     tie.close
@@ -86,6 +104,9 @@ number-spec =
     enum-told-9
     enum-told-10
     enum-told-11
+    enum-told-12
+    enum-told-13
+    enum-told-14
     returns
     returns-2
     returns-3
@@ -96,4 +117,7 @@ number-spec =
     returns-8
     returns-9
     returns-10
-    returns-11)
+    returns-11
+    returns-12
+    returns-13
+    returns-14)
