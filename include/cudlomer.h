@@ -179,7 +179,7 @@ static inline int64_t cudlomer_jobs_write(const struct cudlomer_job *jobs, size_
 }
 
 /* Writes a bound by the algorithm for each job: by that time it is complete in every run. Answers how many were written. Refuses a bad set,
- * with 10, then with 9 where there is not room for all. */
+ * then with 10, then with 9 where there is not room for all. */
 static inline int64_t cudlomer_jobs_bounds(const struct cudlomer_job *jobs, size_t count, uint64_t algorithm, uint64_t *bounds, size_t room)
 {
     return cudlomer_set_bounds((const uint64_t *)jobs, CUDLOMER_NUMBERS(cudlomer_job, count), algorithm, bounds, room);
@@ -188,7 +188,7 @@ static inline int64_t cudlomer_jobs_bounds(const struct cudlomer_job *jobs, size
 /* Writes what the bound of each job by the algorithm comes from, for the two functions below: the number of the job from which its sum begins, by
  * ERT the job itself; then for each chain, from 1 on, the first and the last job of the block that delays it, of those with the largest sum the
  * earliest, 0 and 0 where the chain has none and for its own. By ITR a block is named whole, though only the jobs are added whose spans overlap.
- * Answers how many numbers were written: for each job one, and two for each chain. Refuses a bad set, with 10, then with 9 where there is not
+ * Answers how many numbers were written: for each job one, and two for each chain. Refuses a bad set, then with 10, then with 9 where there is not
  * room for all. */
 static inline int64_t cudlomer_jobs_blocks(const struct cudlomer_job *jobs, size_t count, uint64_t algorithm, uint64_t *blocks, size_t room)
 {
@@ -243,7 +243,7 @@ static inline int64_t cudlomer_jobs_admit(struct cudlomer_job *jobs, size_t room
  * since the earliest time, then that of the lowest chain. A job is ready since its release or its predecessor's completion, whichever is later,
  * also where a more urgent job interrupts it. `times` is how long each job takes in this run, from its least to its most. Answers CUDLOMER_IDLE
  * where none is ready; CUDLOMER_FINISHED where all were complete before, and the state then stays; else which job ran, for the three functions
- * below. Refuses a bad set, with 8, then with 11 where the state has a time beyond CUDLOMER_LAST_TIME; or a job with more work than its time, or
+ * below. Refuses a bad set, then with 8, then with 11 where the state has a time beyond CUDLOMER_LAST_TIME; or a job with more work than its time, or
  * with work though its predecessor is not complete or the time is not after its release; or a complete job whose completion is later than the
  * time or not after its release. */
 static inline int64_t cudlomer_jobs_tick(const struct cudlomer_job *jobs, size_t count, const uint64_t *times, size_t times_count,
@@ -272,7 +272,7 @@ static inline uint64_t cudlomer_ticked_job(int64_t ticked)
 }
 
 /* Runs the set from time 0, with a running time for each job, and writes when each is complete. Answers the end of the run. Refuses a bad set,
- * with 8, then with 9 where there is not room for a completion for each job. It takes as long as cudlomer_trace. */
+ * then with 8, then with 9 where there is not room for a completion for each job. It takes as long as cudlomer_trace. */
 static inline int64_t cudlomer_jobs_run(const struct cudlomer_job *jobs, size_t count, const uint64_t *times, size_t times_count,
                                         uint64_t *completions, size_t room)
 {
@@ -280,7 +280,7 @@ static inline int64_t cudlomer_jobs_run(const struct cudlomer_job *jobs, size_t 
 }
 
 /* Runs the set from time 0, with a running time for each job, and writes a row for each longest run of one job, the earliest first. Answers how
- * many rows were written. Refuses a bad set, with 8, then with 9 where there is not room for two rows for each job. */
+ * many rows were written. Refuses a bad set, then with 8, then with 9 where there is not room for two rows for each job. */
 static inline int64_t cudlomer_jobs_trace(const struct cudlomer_job *jobs, size_t count, const uint64_t *times, size_t times_count,
                                           struct cudlomer_row *rows, size_t room)
 {
@@ -290,7 +290,7 @@ static inline int64_t cudlomer_jobs_trace(const struct cudlomer_job *jobs, size_
 
 /* Runs the set from time 0, with a running time for each job, and writes the run into the buffer as a value change dump of IEEE 1364, each line
  * ended by LF: a wire for each job, such as c1j1 for job 1 of chain 1, is 1 while the job runs. Answers how many bytes were written. Refuses
- * a bad set, with 8, then with 9 where the dump does not fit. It takes as long as cudlomer_trace. */
+ * a bad set, then with 8, then with 9 where the dump does not fit. It takes as long as cudlomer_trace. */
 static inline int64_t cudlomer_jobs_waveform(const struct cudlomer_job *jobs, size_t count, const uint64_t *times, size_t times_count,
                                              uint8_t *out, size_t out_length)
 {

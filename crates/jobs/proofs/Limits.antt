@@ -1,4 +1,4 @@
--- What the tests of a record's limits say, one number for all or each with its own. Assumes nothing.
+-- What a record's tests of limits say: one for all values, or one for each number. Assumes nothing.
 use mathlib.Core.Path.{_≡_}
 use mathlib.Core.Bool.{Bool, true, _&&_}
 use native.Mathlib.Omega.{arith}
@@ -11,7 +11,28 @@ use Rattle.jobs.specs.Checks.{inLimits, timesInLimits}
 use Rattle.jobs.specs.Accepted.{Limited}
 use Rattle.jobs.specs.Claims.{withinLimits}
 
--- ---- one test
+-- the limits, from the test of each
+limited-by : (j : Job)
+    → leb (j .chain) maxChains ≡ true
+    → leb (j .release) maxRelease ≡ true
+    → leb (j .priority) maxPriority ≡ true
+    → leb 1 (j .least) ≡ true
+    → leb (j .least) (j .most) ≡ true
+    → leb (j .most) maxTime ≡ true
+    → leb (j .deadline) maxDeadline ≡ true
+    → Limited j
+limited-by j chain release priority positive range time deadline =
+    record {
+      chains = leb-true (j .chain) maxChains chain;
+      release = leb-true (j .release) maxRelease release;
+      priority = leb-true (j .priority) maxPriority priority;
+      positive = leb-true 1 (j .least) positive;
+      range = leb-true (j .least) (j .most) range;
+      time = leb-true (j .most) maxTime time;
+      deadline = leb-true (j .deadline) maxDeadline deadline;
+    }
+
+-- ---- one test for all
 pub limited : (j : Job) → withinLimits j ≡ true → Limited j
 unfolding withinLimits
 limited j e =
@@ -21,15 +42,7 @@ limited j e =
     let positive = and-parts (range .0) in
     let priority = and-parts (positive .0) in
     let release = and-parts (priority .0) in
-    record {
-      chains = leb-true (j .chain) maxChains (release .0);
-      release = leb-true (j .release) maxRelease (release .1);
-      priority = leb-true (j .priority) maxPriority (priority .1);
-      positive = leb-true 1 (j .least) (positive .1);
-      range = leb-true (j .least) (j .most) (range .1);
-      time = leb-true (j .most) maxTime (time .1);
-      deadline = leb-true (j .deadline) maxDeadline (deadline .1);
-    }
+    limited-by j (release .0) (release .1) (priority .1) (positive .1) (range .1) (time .1) (deadline .1)
 
 pub limited-within : (j : Job) → Limited j → withinLimits j ≡ true
 unfolding withinLimits
@@ -44,7 +57,7 @@ limited-within j l =
       le-leb (j .deadline) maxDeadline (l .deadline),
     )
 
--- ---- four tests
+-- ---- the tests of the numbers 6, 12, 13 and 14
 abbrev pub fourTests : Job → Bool
 fourTests j = inLimits j && leb (j .priority) maxPriority && timesInLimits j && leb (j .least) (j .most)
 
@@ -58,15 +71,7 @@ four-limited j e =
     let release = and-parts (deadline .0) in
     let time = and-parts (times .1) in
     let least = and-parts (and-parts (time .0) .0) in
-    record {
-      chains = leb-true (j .chain) maxChains (release .0);
-      release = leb-true (j .release) maxRelease (release .1);
-      priority = leb-true (j .priority) maxPriority (priority .1);
-      positive = leb-true 1 (j .least) (least .0);
-      range = leb-true (j .least) (j .most) (range .1);
-      time = leb-true (j .most) maxTime (time .1);
-      deadline = leb-true (j .deadline) maxDeadline (deadline .1);
-    }
+    limited-by j (release .0) (release .1) (priority .1) (least .0) (range .1) (time .1) (deadline .1)
 
 limited-four : (j : Job) → Limited j → fourTests j ≡ true
 unfolding inLimits
@@ -83,7 +88,7 @@ limited-four j l =
       le-leb (j .least) (j .most) (l .range),
     )
 
--- ---- the same
+-- ---- they pass together
 pub four-as-one : (j : Job) → fourTests j ≡ withinLimits j
 four-as-one j =
     same-test (fourTests j) (withinLimits j) (λ e. limited-within j (four-limited j e)) (λ e. limited-four j (limited j e))

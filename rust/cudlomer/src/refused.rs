@@ -4,6 +4,20 @@ use core::fmt;
 
 /// The number of a refusal. Of bad jobs the first decides, which is checked for 4, 5, 6, 12, 13 and 14 in this order; 7 comes last. Of a bad text 1
 /// and 2 come first; then the first bad line decides, which is checked for 3, then as a job; 7 comes last.
+///
+/// So each of two tools that fill a table can be told its own fault:
+///
+/// ```
+/// use cudlomer::{Job, Refused, Set};
+///
+/// let measured = Job { chain: 1, job: 1, least: 8, most: 7, ..Job::NONE };
+/// let at_fault = match Set::of(&[measured]) {
+///     Err(Refused::PRIORITY_OUT_OF_LIMITS) => "priorities",
+///     Err(Refused::LEAST_OR_MOST_OUT_OF_LIMITS | Refused::LEAST_ABOVE_MOST) => "running times",
+///     _ => "none",
+/// };
+/// assert_eq!(at_fault, "running times");
+/// ```
 #[derive(Clone, Copy, Debug, PartialEq, Eq)]
 pub struct Refused(pub u8);
 
