@@ -23,7 +23,7 @@ use Rattle.jobs.specs.Checks.{isNext, recordCheck, recordsCheck, anyReco
 use Rattle.jobs.specs.Claims.{withinLimits, plainCheck, asSix}
 pub use Rattle.jobs.specs.Accepted.{Follows, Limited, Accepted}
 use Rattle.jobs.proofs.Limits.{limited, limited-within}
-use Rattle.jobs.proofs.Six.{read-as-six, six-passed}
+use Rattle.jobs.proofs.Six.{record-as-six, six-passed}
 use Rattle.jobs.proofs.Checks.{then-first, then-second, nextCheck, last-take, Reached, reached-start, reached-next, reached-end, any-some, check-passed}
 
 -- ---- a record that passes
@@ -42,7 +42,7 @@ pub record Fine (n : ℕ) (last j : Job) : Type 0 where
 
 pub record-fine : (n : ℕ) (last j : Job) → recordCheck n last j ≡ Passed → Fine n last j
 record-fine n last j p =
-    let e : plainCheck n last j ≡ Passed = sym (read-as-six n last j) ∙ ap asSix p in
+    let e : plainCheck n last j ≡ Passed = sym (record-as-six n last j) ∙ ap asSix p in
     let f = unless-later (ltb n maxJobs) _ _ e in
     let g = unless-later (isNext n last j) _ _ f in
     record {
@@ -53,7 +53,7 @@ record-fine n last j p =
 
 pub fine-record : (n : ℕ) (last j : Job) → Fine n last j → recordCheck n last j ≡ Passed
 fine-record n last j f =
-    six-passed (recordCheck n last j) (read-as-six n last j ∙ rw (lt-ltb n maxJobs (f .room), f .next, f .within))
+    six-passed (recordCheck n last j) (record-as-six n last j ∙ rw (lt-ltb n maxJobs (f .room), f .next, f .within))
 
 -- ---- order
 follows : (n : ℕ) (i j : Job) → isNext (suc n) i j ≡ true → Follows i j

@@ -28,6 +28,10 @@ pub then-second : (a b : Check) → andThen a b ≡ Passed → b ≡ Passed
 then-second Passed b e = e
 then-second (Refused r) b e = let z : _≡_ {A = ℕ} 0 1 = cc in absurd (omega arith)
 
+pub then-then : (a b c : Check) → andThen (andThen a b) c ≡ andThen a (andThen b c)
+then-then Passed b c = refl
+then-then (Refused r) b c = refl
+
 then-refused : (a b c : Check) (x : Refusal) → (b ≡ Refused x → c ≡ Refused x) → andThen a b ≡ Refused x → andThen a c ≡ Refused x
 then-refused Passed b c x f e = f e
 then-refused (Refused y) b c x f e = e
