@@ -1,4 +1,4 @@
--- What is proved of the checks; proofs/Claims.antt has the proof of all. Assumes nothing.
+-- What is proved of the checks; proofs/Claims.antt has the proof of all. Document 02, R-4. Assumes nothing.
 use Rattle.laws.specs.Words.{ℕ, _≡_, _↔_, Bool, cond, _&&_, List, [], _∷_, _++_, leb, ltb, length, lastOf}
 use Rattle.jobs.specs.declared.{job.Job.Job, refusal.Refusal.Refusal, refusal.Check.Check}
 use Rattle.jobs.specs.{Limits.maxJobs, Limits.maxChains, Limits.maxRelease, Limits.maxPriority, Limits.maxTime, Limits.maxDeadline, Refusals.numberOf, Refusals.unless, Refusals.onPass, Refusals.andThen}
@@ -40,5 +40,5 @@ pub record Claims : Type 0 where
   pub accepts : (js : List Job) → checkOf js ≡ Check.Passed ↔ Accepted js
   -- With 12, 13 and 14 read as 6, a record is checked as with one number for all values, be it of a text, of a set or of a joining chain.
   pub record-as-six : (n : ℕ) (last j : Job) → asSix (recordCheck n last j) ≡ plainCheck n last j
-  -- So is a set: the same sets are accepted, and in any other the same record is refused first.
+  -- So is a set: the same sets are accepted, and all others refused with the same number.
   pub set-as-six : (js : List Job) → asSix (checkOf js) ≡ checkBy plainCheck [] js
