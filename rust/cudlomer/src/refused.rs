@@ -21,35 +21,31 @@ use core::fmt;
 #[derive(Clone, Copy, Debug, PartialEq, Eq)]
 pub struct Refused(pub u8);
 
-impl Refused {
-    /// The text is longer than 4,096 bytes.
-    pub const TEXT_TOO_LONG: Refused = Refused(1);
-    /// The first line is not the header.
-    pub const NOT_HEADER: Refused = Refused(2);
-    /// A line is not seven decimal numbers with single commas.
-    pub const MALFORMED_LINE: Refused = Refused(3);
-    /// There are more than 64 records.
-    pub const TOO_MANY_RECORDS: Refused = Refused(4);
-    /// A chain or job is not next in order.
-    pub const OUT_OF_ORDER: Refused = Refused(5);
-    /// A chain number, release or deadline is beyond its limit.
-    pub const OUT_OF_LIMITS: Refused = Refused(6);
-    /// There is no record.
-    pub const NO_RECORD: Refused = Refused(7);
-    /// The running times are not one for each job, from its least to its most.
-    pub const RUNNING_TIMES: Refused = Refused(8);
-    /// The buffer is too short.
-    pub const SHORT_BUFFER: Refused = Refused(9);
-    /// The algorithm is not 1, 2 or 3.
-    pub const UNKNOWN_ALGORITHM: Refused = Refused(10);
-    /// The state cannot be.
-    pub const IMPOSSIBLE_STATE: Refused = Refused(11);
-    /// A priority is beyond 255.
-    pub const PRIORITY_OUT_OF_LIMITS: Refused = Refused(12);
-    /// A least or a most is not from 1 to 1,000,000.
-    pub const LEAST_OR_MOST_OUT_OF_LIMITS: Refused = Refused(13);
-    /// A least is above its most.
-    pub const LEAST_ABOVE_MOST: Refused = Refused(14);
+/// The constants of the refusals, each by its name, number and reason.
+macro_rules! named {
+    ($($name:ident = $number:literal, $reason:literal;)*) => {
+        impl Refused {
+            $(#[doc = $reason]
+            pub const $name: Refused = Refused($number);)*
+        }
+    };
+}
+
+named! {
+    TEXT_TOO_LONG = 1, "The text is longer than 4,096 bytes.";
+    NOT_HEADER = 2, "The first line is not the header.";
+    MALFORMED_LINE = 3, "A line is not seven decimal numbers with single commas.";
+    TOO_MANY_RECORDS = 4, "There are more than 64 records.";
+    OUT_OF_ORDER = 5, "A chain or job is not next in order.";
+    OUT_OF_LIMITS = 6, "A chain number, release or deadline is beyond its limit.";
+    NO_RECORD = 7, "There is no record.";
+    RUNNING_TIMES = 8, "The running times are not one for each job, from its least to its most.";
+    SHORT_BUFFER = 9, "The buffer is too short.";
+    UNKNOWN_ALGORITHM = 10, "The algorithm is not 1, 2 or 3.";
+    IMPOSSIBLE_STATE = 11, "The state cannot be.";
+    PRIORITY_OUT_OF_LIMITS = 12, "A priority is beyond 255.";
+    LEAST_OR_MOST_OUT_OF_LIMITS = 13, "A least or a most is not from 1 to 1,000,000.";
+    LEAST_ABOVE_MOST = 14, "A least is above its most.";
 }
 
 impl fmt::Display for Refused {
