@@ -1,4 +1,4 @@
--- The refusals and their numbers, and checks in sequence. Document 01, "Numbers of refusal, in checking order"; document 02, R-4. Assumes nothing.
+-- The refusals and their numbers, and checks in sequence. Document 01, "Numbers of refusal, in checking order"; document 02, R-4 and R-5. Assumes nothing.
 use Rattle.laws.specs.Words.{ℕ, Bool, true, false}
 use Rattle.jobs.specs.declared.{refusal.Refusal.Refusal, refusal.Check.Check}
 
@@ -18,6 +18,8 @@ numberOf Refusal.ImpossibleState = 11
 numberOf Refusal.PriorityOutOfLimits = 12
 numberOf Refusal.LeastOrMostOutOfLimits = 13
 numberOf Refusal.LeastAboveMost = 14
+numberOf Refusal.MalformedRecording = 15
+numberOf Refusal.TooManyRows = 16
 
 -- One check in a sequence: the refusal where the test fails, else what the checks after it come to.
 abbrev pub unless : Bool → Refusal → Check → Check

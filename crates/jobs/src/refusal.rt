@@ -17,6 +17,8 @@ pub enum Refusal {
     PriorityOutOfLimits,
     LeastOrMostOutOfLimits,
     LeastAboveMost,
+    MalformedRecording,
+    TooManyRows,
 }
 
 impl Refusal {
@@ -38,6 +40,8 @@ impl Refusal {
             Refusal::PriorityOutOfLimits => 12,
             Refusal::LeastOrMostOutOfLimits => 13,
             Refusal::LeastAboveMost => 14,
+            Refusal::MalformedRecording => 15,
+            Refusal::TooManyRows => 16,
         }
     }
 }

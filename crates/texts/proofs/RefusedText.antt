@@ -11,7 +11,7 @@ use Rattle.laws.proofs.Tests.{by-test}
 use Rattle.decimal.specs.Digits.{digitCount, decimal}
 use Rattle.decimal.proofs.Writing.{length-fits, length-short}
 use Rattle.jobs.specs.declared.refusal.Refusal.{Refusal}
-use Rattle.jobs.specs.declared.refusal.Refusal.the-variants.{TextTooLong, NotHeader, MalformedLine, TooManyRecords, OutOfOrder, OutOfLimits, NoRecord, RunningTimes, ShortBuffer, UnknownAlgorithm, ImpossibleState, PriorityOutOfLimits, LeastOrMostOutOfLimits, LeastAboveMost}
+use Rattle.jobs.specs.declared.refusal.Refusal.the-variants.{TextTooLong, NotHeader, MalformedLine, TooManyRecords, OutOfOrder, OutOfLimits, NoRecord, RunningTimes, ShortBuffer, UnknownAlgorithm, ImpossibleState, PriorityOutOfLimits, LeastOrMostOutOfLimits, LeastAboveMost, MalformedRecording, TooManyRows}
 use Rattle.jobs.specs.Refusals.{numberOf}
 use Rattle.texts.specs.Answers.{refusedText}
 use Rattle.texts.proofs.WordDigits.{word-digits}
@@ -41,6 +41,8 @@ number-within ImpossibleState = omega arith
 number-within PriorityOutOfLimits = omega arith
 number-within LeastOrMostOutOfLimits = omega arith
 number-within LeastAboveMost = omega arith
+number-within MalformedRecording = omega arith
+number-within TooManyRows = omega arith
 
 -- the line is short, whether it was written or not
 pub refused-short : (refusal : Refusal) (buffer : List ℕ) {n : ℕ} → n ≡ writtenLength (refusedText refusal) buffer → n ≤ 30
