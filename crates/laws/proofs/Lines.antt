@@ -1,6 +1,4 @@
 -- The first line of a text, what stands behind it, and a place inside it. Assumes nothing.
---   firstLine   all up to the next CR LF or the end of the text
---   afterLine   all that stands after that line and its CR LF
 use Prim.Native.Nat.{ℕ, zero, suc, _-_, _≤_, _<_}
 use mathlib.Core.Bool.{Bool, true, false, cond, _&&_}
 use mathlib.Core.List.{List, [], _∷_}
@@ -10,21 +8,9 @@ use native.Mathlib.Omega.{arith}
 use lib.ListN.{length, take, drop}
 use lib.Dec.{eqb}
 use borrow.Author.Tests.{ne-eqb}
+pub use Rattle.laws.specs.Lines.{isBreak, lineLength}
+unfoldable pub use Rattle.laws.specs.Lines.{firstLine, afterLine}
 use Rattle.laws.proofs.Tests.{by-test}
-
--- whether two bytes are CR LF
-abbrev pub isBreak : ℕ → ℕ → Bool
-isBreak b c = eqb b 13 && eqb c 10
-
-unfoldable pub firstLine : List ℕ → List ℕ
-firstLine [] = []
-firstLine (b ∷ []) = b ∷ []
-firstLine (b ∷ c ∷ text) = cond (isBreak b c) [] (b ∷ firstLine (c ∷ text))
-
-unfoldable pub afterLine : List ℕ → List ℕ
-afterLine [] = []
-afterLine (b ∷ []) = []
-afterLine (b ∷ c ∷ text) = cond (isBreak b c) text (afterLine (c ∷ text))
 
 -- ---- a byte that no break starts at belongs to the line
 pub no-break : (b c : ℕ) → (b ≡ 13 → ⊥) ⊎ (c ≡ 10 → ⊥) → isBreak b c ≡ false
@@ -59,10 +45,6 @@ pub after-less : (b : ℕ) (text : List ℕ) → length (afterLine (b ∷ text))
 unfolding afterLine
 after-less b [] = omega arith
 after-less b (c ∷ text) = by-test (isBreak b c) (λ t. simp t (omega arith)) (λ t. simp t (after-within (c ∷ text)))
-
--- how many bytes the first line takes with its end
-abbrev pub lineLength : List ℕ → ℕ
-lineLength text = length text - length (afterLine text)
 
 pub line-within : (text : List ℕ) → lineLength text ≤ length text
 line-within text = omega arith

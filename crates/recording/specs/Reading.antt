@@ -1,7 +1,7 @@
 -- A whole recording. Document 02, R-5 and its numbers 15 and 16. Assumes nothing.
-use Rattle.laws.specs.Words.{ℕ, Bool, cond, _&&_, _||_, none, some, List, [], _∷_, _++_, ltb, eqb, length, getD, take, sameUpTo, lastOf, padded, ascii}
+use Rattle.laws.specs.Words.{ℕ, Bool, cond, _&&_, _||_, none, some, List, [], _∷_, _++_, ltb, eqb, length, getD, take, lastOf, padded, ascii}
 use Rattle.jobs.specs.{declared.job.Job.Job, declared.refusal.Refusal.Refusal, declared.refusal.Check.Check, Refusals.onPass, Jobs.placeIn, Checks.checkOf}
-use Rattle.table.specs.Lines.{linesOf, rowOf}
+use Rattle.table.specs.Lines.{linesOf, rowOf, under}
 use Rattle.recording.specs.{declared.row.Row.Row, declared.reading.Recording.Recording, Rows.row, Rows.noRow, Rows.follows}
 
 -- The first line.
@@ -48,9 +48,7 @@ rowsFrom js before (line ∷ lines) =
 
 -- 15, then the lines under the header.
 abbrev pub underHeader : List Job → List (List ℕ) → Recording
-underHeader js [] = refusedWith Refusal.MalformedRecording
-underHeader js (line ∷ lines) =
-    cond (eqb (length line) (length header) && sameUpTo (length header) line header) (rowsFrom js [] lines) (refusedWith Refusal.MalformedRecording)
+underHeader js lines = under header lines (rowsFrom js []) (refusedWith Refusal.MalformedRecording)
 
 -- The answer to reading a recording against a set: the refusals of the set, then 15 and 16.
 unfoldable pub recordingOf : List Job → List ℕ → Recording

@@ -18,9 +18,8 @@ use Rattle.jobs.specs.Checks.{recordsCheck, checkOf}
 use Rattle.jobs.proofs.Sets.{jobs-set}
 use Rattle.jobs.proofs.Checks.{nextCheck, records-append, records-none, records-passed, check-passed}
 use Rattle.table.specs.declared.reading.Reading.{Reading}
-use Rattle.table.specs.Lines.{linesOf, maxColumns, rowOf}
+use Rattle.table.specs.Lines.{linesOf, maxColumns, rowOf, isLine}
 use Rattle.table.specs.Tables.{header, maxText, jobOf, refusedWith, recordsFrom, underHeader, readingOf}
-use Rattle.table.proofs.Headers.{isLine}
 use Rattle.table.proofs.Records.{thenRow}
 
 -- a reading that passes holds an accepted set

@@ -1,7 +1,7 @@
--- A text that starts with the header: byte by byte, and as its first line. Assumes nothing.
+-- A text that starts with a header: byte by byte, and as its first line. Assumes nothing.
 use Prim.Native.Nat.{ℕ, _+_, _≤_, _<_}
-use mathlib.Core.Bool.{Bool, true, false, cond, _&&_}
-use mathlib.Core.List.{List, _++_}
+use mathlib.Core.Bool.{true, false, cond}
+use mathlib.Core.List.{List, [], _∷_, _++_}
 use mathlib.Core.Path.{_≡_, refl, sym, ap, _∙_}
 use mathlib.Core.Logic.{_≢_}
 use native.Mathlib.Omega.{arith}
@@ -12,23 +12,12 @@ use borrow.Author.Tests.{le-leb, lt-leb, leb-true, eq-eqb, ne-eqb, eqb-true, eqb
 use Rattle.laws.specs.Words.{sameUpTo}
 use Rattle.laws.proofs.Tests.{by-test, both-ways, never-true, and-left, and-right, and-both}
 use Rattle.laws.proofs.Same.{same-not, same-whole, same-front, front-same}
-use Rattle.laws.proofs.Lines.{firstLine, afterLine, lineLength, after-within, first-take}
+use Rattle.laws.proofs.Lines.{firstLine, afterLine, lineLength, line-within, after-within, after-drop, first-take}
 use Rattle.decimal.proofs.Absence.{lacks}
-use Rattle.table.specs.declared.line.End.{End}
 use Rattle.table.specs.declared.line.End.the-variants.{Here, Elsewhere}
-use Rattle.table.specs.Tables.{header}
-use Rattle.table.proofs.Lines.{endOf, end-within}
+use Rattle.table.specs.Lines.{linesOf, isLine, under, endOf, startsWith, endBehind}
+use Rattle.table.proofs.Lines.{lines-cons, end-within}
 use Rattle.table.proofs.PlainLines.{goes-on}
-
--- ---- what the contracts write out
-abbrev pub startsWith : List ℕ → List ℕ → Bool
-startsWith prefix text = leb (length prefix) (length text) && sameUpTo (length prefix) text prefix
-
-abbrev pub isLine : List ℕ → List ℕ → Bool
-isLine line text = eqb (length text) (length line) && sameUpTo (length line) text line
-
-abbrev pub headerEnd : List ℕ → End
-headerEnd text = cond (isLine header (firstLine text)) (Here (lineLength text)) Elsewhere
 
 -- ---- byte by byte
 module _ (prefix text : List ℕ) where
@@ -81,33 +70,58 @@ line-starts prefix text e =
     let front : take (length prefix) text ≡ prefix = ap (λ (l : List ℕ). take (length l) text) (sym line) ∙ sym (first-take text) ∙ line in
     prefix-done prefix text (omega (arith, ap length front, length-take (length prefix) text)) (front-same text prefix front)
 
--- ---- the header
-pub not-header : (text : List ℕ) → startsWith header text ≡ false → Elsewhere ≡ headerEnd text
-not-header text e = rw (never-true (isLine header (firstLine text)) (λ t. both-ways (line-starts header text t) e))
+-- ---- the line ends behind the prefix, or elsewhere
+module _ (prefix text : List ℕ) where
+  pub behind-not : startsWith prefix text ≡ false → Elsewhere ≡ endBehind prefix text
+  unfolding endBehind
+  behind-not e = rw e
 
-module _ (text : List ℕ) (e : startsWith header text ≡ true) where
-  begins : Starts header text
-  unfolding lacks
-  begins = starts header text refl e
+  module _ (e : startsWith prefix text ≡ true) where
+    pub prefix-within : length prefix ≤ length text
+    prefix-within = leb-true _ _ (and-left (leb (length prefix) (length text)) (sameUpTo (length prefix) text prefix) e)
 
-  pub header-within : length header ≤ length text
-  header-within = begins .within
+    pub behind-room : (n : ℕ) → endOf (drop (length prefix) text) ≡ Here n → length prefix + n ≤ length text
+    behind-room n f = omega (arith, prefix-within, end-within (drop (length prefix) text) n f, length-drop (length prefix) text)
 
-  whole : length header + lineLength (drop (length header) text) ≡ lineLength text
-  whole = omega (arith, begins .within, ap length (begins .after), length-drop (length header) text, after-within (drop (length header) text))
+    pub behind-here : (n : ℕ) → endOf (drop (length prefix) text) ≡ Here n → Here (length prefix + n) ≡ endBehind prefix text
+    unfolding endBehind
+    behind-here n f = rw (e, f)
 
-  pub header-room : (n : ℕ) → endOf (drop (length header) text) ≡ Here n → length header + n ≤ length text
-  header-room n f = omega (arith, begins .within, end-within (drop (length header) text) n f, length-drop (length header) text)
+    pub behind-longer : endOf (drop (length prefix) text) ≡ Elsewhere → Elsewhere ≡ endBehind prefix text
+    unfolding endBehind
+    behind-longer f = rw (e, f)
 
-  -- the header is the whole line, or there is more in it
-  pub header-line : (n : ℕ) → endOf (drop (length header) text) ≡ Here n → Here (length header + n) ≡ headerEnd text
-  header-line n f =
-      by-test (eqb (length (firstLine (drop (length header) text))) 0)
-      (λ t. let m : lineLength (drop (length header) text) ≡ n = cc (rw t at f) in rw (begins .line ∙ t, ← m) (ap Here whole))
-      (λ t. let z : _≡_ {A = ℕ} 0 1 = cc (rw t at f) in absurd (omega arith))
+-- ---- so that a prefix that holds no CR is the first line
+pub behind-line : (prefix text : List ℕ) → lacks 13 prefix ≡ true → endBehind prefix text ≡ cond (isLine prefix (firstLine text)) (Here (lineLength text)) Elsewhere
+behind-line prefix text plain =
+    by-test (startsWith prefix text)
+    (λ e.
+    let s = starts prefix text plain e in
+    let rest = drop (length prefix) text in
+    let whole : length prefix + lineLength rest ≡ lineLength text = omega (arith, s .within, ap length (s .after), length-drop (length prefix) text, after-within rest) in
+    by-test (eqb (length (firstLine rest)) 0)
+    (λ t. sym (behind-here prefix text e (lineLength rest) (rw t)) ∙ ap Here whole ∙ sym (rw (s .line ∙ t)))
+    (λ t. sym (behind-longer prefix text e (rw t)) ∙ sym (rw (s .line ∙ t))))
+    (λ e. sym (behind-not prefix text e) ∙ sym (rw (never-true (isLine prefix (firstLine text)) (λ t. both-ways (line-starts prefix text t) e))))
 
-  pub header-longer : endOf (drop (length header) text) ≡ Elsewhere → Elsewhere ≡ headerEnd text
-  header-longer f =
-      by-test (eqb (length (firstLine (drop (length header) text))) 0)
-      (λ t. let z : _≡_ {A = ℕ} 0 1 = cc (rw t at f) in absurd (omega arith))
-      (λ t. rw (begins .line ∙ t))
+-- ---- the lines under a header that is some text
+module _ {A : Type 0} (header : List ℕ) (some : 0 < length header) (plain : lacks 13 header ≡ true) (answer : List (List ℕ) → A) (otherwise : A) where
+  under-first : (text : List ℕ) → under header (linesOf text) answer otherwise ≡ cond (isLine header (firstLine text)) (answer (linesOf (afterLine text))) otherwise
+  unfolding linesOf firstLine
+  under-first [] = sym (rw (ne-eqb 0 (length header) (λ z. omega arith)))
+  under-first (b ∷ text) = rw (lines-cons b text)
+
+  pub under-not : (text : List ℕ) → endBehind header text ≡ Elsewhere → otherwise ≡ under header (linesOf text) answer otherwise
+  under-not text e =
+      by-test (isLine header (firstLine text))
+      (λ t. let z : _≡_ {A = ℕ} 0 1 = cc (rw t at (sym (behind-line header text plain) ∙ e)) in absurd (omega arith))
+      (λ t. sym (under-first text ∙ rw t))
+
+  pub under-here : (text : List ℕ) (n : ℕ) → endBehind header text ≡ Here n → (n ≤ length text) × (answer (linesOf (drop n text)) ≡ under header (linesOf text) answer otherwise)
+  under-here text n e =
+      by-test (isLine header (firstLine text))
+      (λ t.
+      let m : lineLength text ≡ n = cc (rw t at (sym (behind-line header text plain) ∙ e)) in
+      let after : drop n text ≡ afterLine text = rw (← m) (after-drop text) in
+      (omega (arith, line-within text), ap (λ (rest : List ℕ). answer (linesOf rest)) after ∙ sym (under-first text ∙ rw t)))
+      (λ t. let z : _≡_ {A = ℕ} 0 1 = cc (rw t at (sym (behind-line header text plain) ∙ e)) in absurd (omega arith))

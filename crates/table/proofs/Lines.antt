@@ -1,6 +1,6 @@
 -- The lines of a text are its first line and those behind it; where a line ends. Assumes nothing.
 use Prim.Native.Nat.{ℕ, _≤_, _<_}
-use mathlib.Core.Bool.{true, cond}
+use mathlib.Core.Bool.{true}
 use mathlib.Core.List.{List, [], _∷_}
 use mathlib.Core.Path.{_≡_, refl, ap, _∙_}
 use mathlib.Core.Logic.{_⊎_}
@@ -10,9 +10,8 @@ use lib.Dec.{eqb}
 use borrow.Author.Tests.{eq-eqb, ne-eqb}
 use Rattle.laws.proofs.Tests.{by-test}
 use Rattle.laws.proofs.Lines.{isBreak, firstLine, afterLine, no-break, first-cons, first-break, after-break, lineLength}
-use Rattle.table.specs.declared.line.End.{End}
 use Rattle.table.specs.declared.line.End.the-variants.{Here, Elsewhere}
-use Rattle.table.specs.Lines.{linesOf}
+use Rattle.table.specs.Lines.{linesOf, endOf}
 
 pub lines-cons : (b : ℕ) (text : List ℕ) → linesOf (b ∷ text) ≡ firstLine (b ∷ text) ∷ linesOf (afterLine (b ∷ text))
 unfolding linesOf firstLine afterLine
@@ -20,9 +19,6 @@ lines-cons b [] = refl
 lines-cons b (c ∷ text) = by-test (isBreak b c) (λ t. rw t) (λ t. rw (t, lines-cons c text))
 
 -- ---- where the line ends
-abbrev pub endOf : List ℕ → End
-endOf text = cond (eqb (length (firstLine text)) 0) (Here (lineLength text)) Elsewhere
-
 pub end-empty : (text : List ℕ) → firstLine text ≡ [] → endOf text ≡ Here (lineLength text)
 end-empty text e = rw (eq-eqb (length (firstLine text)) 0 (ap length e))
 

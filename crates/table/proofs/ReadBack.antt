@@ -23,9 +23,8 @@ use Rattle.jobs.specs.Jobs.{setOf, jobAt}
 use Rattle.jobs.specs.Checks.{recordsCheck, anyRecord}
 use Rattle.jobs.proofs.Checks.{then-first, then-second, nextCheck}
 use Rattle.table.specs.declared.reading.Reading.{Reading}
-use Rattle.table.specs.Lines.{linesOf, maxColumns, fieldsIn, rowOf}
+use Rattle.table.specs.Lines.{linesOf, maxColumns, fieldsIn, rowOf, isLine}
 use Rattle.table.specs.Tables.{header, maxText, refusedWith, recordsFrom, underHeader, readingOf}
-use Rattle.table.proofs.Headers.{isLine}
 use Rattle.table.proofs.Records.{thenRow}
 use Rattle.table.proofs.PlainLines.{lines-plain}
 

@@ -24,10 +24,9 @@ use Rattle.jobs.proofs.Checks.{any-some}
 use Rattle.jobs.proofs.Accepted.{record-fine}
 use Rattle.table.specs.declared.line.Line.{Line}
 use Rattle.table.specs.declared.reading.Reading.{Reading}
-use Rattle.table.specs.Lines.{linesOf, maxColumns, rowOf}
+use Rattle.table.specs.Lines.{linesOf, maxColumns, rowOf, lineWith, lineOf}
 use Rattle.table.specs.Tables.{jobOf, refusedWith, recordsFrom}
 use Rattle.table.proofs.Lines.{lines-cons}
-use Rattle.table.proofs.Rows.{lineWith, lineOf}
 
 -- ---- one line
 job-padded : (values : List ℕ) → jobOf (padded maxColumns 0 values) ≡ jobOf values
@@ -51,6 +50,7 @@ found-by (some values) text e line f p =
 found-by none text e line f p = let z : _≡_ {A = ℕ} 0 1 = cc (ap (λ (l : Line). l .check) f) in absurd (omega arith)
 
 found : (line : Line) (text : List ℕ) → line ≡ lineOf maxColumns text → line .check ≡ Passed → Found line text
+unfolding lineOf
 found line text e p = found-by (rowOf maxColumns (firstLine text)) text refl line e p
 
 malformed-by : (r : Option (List ℕ)) (text : List ℕ) → rowOf maxColumns (firstLine text) ≡ r → (line : Line) → line ≡ lineWith r (lineLength text) → (x : Refusal) → line .check ≡ Refused x
@@ -62,6 +62,7 @@ malformed-by none text e line f x p rest =
     ap (λ (r : Option (List ℕ)). thenRow r rest) e ∙ ap refusedWith q
 
 malformed : (line : Line) (text : List ℕ) → line ≡ lineOf maxColumns text → (x : Refusal) → line .check ≡ Refused x → (rest : Job → Reading) → thenRow (rowOf maxColumns (firstLine text)) rest ≡ refusedWith x
+unfolding lineOf
 malformed line text e = malformed-by (rowOf maxColumns (firstLine text)) text refl line e
 
 -- ---- the lines so far are records of the set, and what follows them decides

@@ -8,33 +8,23 @@ use native.Mathlib.Nat.{zero-add}
 use native.Mathlib.Numerals.{add-one}
 use lib.ListN.{length, take, drop, set, length-take, length-drop}
 use lib.Seq.{drop-drop, take-suc-set, length-take-le}
-use borrow.Author.Tests.{ne-eqb}
+use borrow.Author.Tests.{ne-eqb, le-leb, lt-leb}
 use Rattle.laws.specs.Words.{padded}
 use Rattle.laws.proofs.Lists.{length-padded, padded-snoc}
 use Rattle.laws.proofs.Lines.{firstLine, afterLine, lineLength, after-within, inside}
 use Rattle.decimal.specs.declared.field.Field.{Field}
 use Rattle.decimal.specs.declared.field.Field.the-variants.{Number, NoNumber}
-use Rattle.jobs.specs.declared.refusal.Refusal.the-variants.{MalformedLine}
-use Rattle.jobs.specs.declared.refusal.Check.the-variants.{Passed, Refused}
+use Rattle.jobs.specs.declared.refusal.Check.the-variants.{Passed}
 use Rattle.table.specs.declared.line.End.{End}
 use Rattle.table.specs.declared.line.End.the-variants.{Here, Elsewhere}
 use Rattle.table.specs.declared.line.Line.{Line}
-use Rattle.table.specs.Lines.{maxColumns, fieldsIn, rowOf}
-use Rattle.table.proofs.Lines.{endOf, end-empty, end-elsewhere, end-within}
+use Rattle.table.specs.Lines.{maxColumns, fieldsIn, rowOf, lineWith, lineOf, endOf}
+use Rattle.table.proofs.Lines.{end-empty, end-elsewhere, end-within}
 use Rattle.table.proofs.Columns.{columnOf, thenField, ahead, fields-ahead, column-line, column-within}
 
--- ---- a line that passed, one that is not so many fields, and the first line of a text
-abbrev passedLine : List ℕ → ℕ → Line
-passedLine values n = record { check = Passed; values = values; length = n }
-
-abbrev pub malformedLine : Line
-malformedLine = record { check = Refused MalformedLine; values = padded maxColumns 0 []; length = 0 }
-
-abbrev pub lineWith : Option (List ℕ) → ℕ → Line
-lineWith r n = elim r [ some values ↦ passedLine (padded maxColumns 0 values) n | none ↦ malformedLine ]
-
-abbrev pub lineOf : ℕ → List ℕ → Line
-lineOf columns text = lineWith (rowOf columns (firstLine text)) (lineLength text)
+-- ---- the first line of a text, by its row
+abbrev pub lineBy : ℕ → List ℕ → Line
+lineBy columns text = lineWith (rowOf columns (firstLine text)) (lineLength text)
 
 -- ---- the line where so many fields are left, after some fields and `at` bytes
 abbrev lineFrom : ℕ → List ℕ → ℕ → ℕ → List ℕ → Line
@@ -43,7 +33,7 @@ lineFrom left before k at rest = lineWith (fieldsIn left before (ahead k (firstL
 -- where none is left, the line has to end
 abbrev ended : End → List ℕ → ℕ → Line
 ended (Here n) before at = lineWith (some before) (at + n)
-ended Elsewhere before at = malformedLine
+ended Elsewhere before at = lineWith none 0
 
 at-end : (before : List ℕ) (at : ℕ) (rest line : List ℕ) → firstLine rest ≡ line → ended (endOf rest) before at ≡ lineWith (fieldsIn 0 before line) (at + lineLength rest)
 unfolding fieldsIn
@@ -55,7 +45,7 @@ pub record FieldsRead (columns : ℕ) (text values : List ℕ) (at k : ℕ) : Ty
   pub few : k ≤ columns
   pub inside : at ≤ length text
   pub padding : values ≡ padded maxColumns 0 (take k values)
-  pub follows : lineFrom (columns - k) (take k values) k at (drop at text) ≡ lineOf columns text
+  pub follows : lineFrom (columns - k) (take k values) k at (drop at text) ≡ lineBy columns text
 
 pub fields-none : (columns : ℕ) (text : List ℕ) → FieldsRead columns text (padded maxColumns 0 []) 0 0
 fields-none columns text =
@@ -75,12 +65,12 @@ module _ {columns : ℕ} {text values : List ℕ} {at k : ℕ} (room : (0 < colu
 
   -- the next column decides how the line goes on
   next : (f : Field) → k < columns → columnOf k (drop at text) ≡ f
-      → lineWith (thenField f (λ v n. fieldsIn (columns - (k + 1)) (take k values ++ (v ∷ [])) (drop n (firstLine (drop at text))))) (at + lineLength (drop at text)) ≡ lineOf columns text
+      → lineWith (thenField f (λ v n. fieldsIn (columns - (k + 1)) (take k values ++ (v ∷ [])) (drop n (firstLine (drop at text))))) (at + lineLength (drop at text)) ≡ lineBy columns text
   next f h e =
       let left : columns - k ≡ suc (columns - (k + 1)) = omega arith in
       rw (← e, ← column-line k (drop at text), ← fields-ahead (columns - (k + 1)) (take k values) k (firstLine (drop at text)), ← left) (r .follows)
 
-  pub fields-malformed : k < columns → columnOf k (drop at text) ≡ NoNumber → malformedLine ≡ lineOf columns text
+  pub fields-malformed : k < columns → columnOf k (drop at text) ≡ NoNumber → lineWith none 0 ≡ lineBy columns text
   fields-malformed h e = next NoNumber h e
 
   pub fields-within : (v n : ℕ) → columnOf k (drop at text) ≡ Number v n → at + n ≤ length text
@@ -103,7 +93,7 @@ module _ {columns : ℕ} {text values : List ℕ} {at k : ℕ} (room : (0 < colu
       }
 
   -- no column is left
-  last : (o : End) → columns ≤ k → endOf (drop at text) ≡ o → ended o (take k values) at ≡ lineOf columns text
+  last : (o : End) → columns ≤ k → endOf (drop at text) ≡ o → ended o (take k values) at ≡ lineBy columns text
   last o h e =
       let done : columns - k ≡ 0 = omega arith in
       rw (← e, at-end (take k values) at (drop at text) (firstLine (drop at text)) refl) (rw (done, ne-eqb k 0 (λ z. omega arith)) at (r .follows))
@@ -111,8 +101,21 @@ module _ {columns : ℕ} {text values : List ℕ} {at k : ℕ} (room : (0 < colu
   pub fields-last : (n : ℕ) → endOf (drop at text) ≡ Here n → at + n ≤ length text
   fields-last n e = omega (arith, end-within (drop at text) n e, length-drop at text, r .inside)
 
-  pub fields-ended : (n : ℕ) → columns ≤ k → endOf (drop at text) ≡ Here n → _≡_ {A = Line} (record { check = Passed; values = values; length = at + n }) (lineOf columns text)
-  fields-ended n h e = ap (λ (l : List ℕ). passedLine l (at + n)) (r .padding) ∙ last (Here n) h e
+  pub fields-ended : (n : ℕ) → columns ≤ k → endOf (drop at text) ≡ Here n → _≡_ {A = Line} (record { check = Passed; values = values; length = at + n }) (lineBy columns text)
+  fields-ended n h e = ap (λ (l : List ℕ). record { check = Passed; values = l; length = at + n }) (r .padding) ∙ last (Here n) h e
 
-  pub fields-open : columns ≤ k → endOf (drop at text) ≡ Elsewhere → malformedLine ≡ lineOf columns text
+  pub fields-open : columns ≤ k → endOf (drop at text) ≡ Elsewhere → lineWith none 0 ≡ lineBy columns text
   fields-open h e = last Elsewhere h e
+
+-- ---- a line of any number of columns
+pub line-none : (columns : ℕ) (text : List ℕ) → columns ≡ 0 → lineWith none 0 ≡ lineOf columns text
+unfolding lineOf fieldsIn
+line-none columns text e = rw e
+
+pub line-many : (columns : ℕ) (text : List ℕ) → maxColumns < columns → lineWith none 0 ≡ lineOf columns text
+unfolding lineOf
+line-many columns text h = rw (lt-leb columns maxColumns h)
+
+pub line-few : (columns : ℕ) (text : List ℕ) → columns ≤ maxColumns → lineBy columns text ≡ lineOf columns text
+unfolding lineOf
+line-few columns text h = rw (le-leb columns maxColumns h)

@@ -1,8 +1,8 @@
 -- A whole job table. Document 01, "A job table", and numbers 1 to 7; document 02, R-4. Assumes nothing.
-use Rattle.laws.specs.Words.{ℕ, cond, _&&_, none, some, List, [], _∷_, _++_, leb, eqb, length, getD, sameUpTo, lastOf, ascii}
+use Rattle.laws.specs.Words.{ℕ, cond, none, some, List, [], _∷_, _++_, leb, length, getD, lastOf, ascii}
 use Rattle.jobs.specs.declared.{job.Job.Job, refusal.Refusal.Refusal, refusal.Check.Check}
 use Rattle.jobs.specs.{Refusals.onPass, Jobs.job, Jobs.noJob, Jobs.jobsOf, Jobs.setOf, Checks.recordCheck, Checks.anyRecord}
-use Rattle.table.specs.{declared.reading.Reading.Reading, Lines.linesOf, Lines.maxColumns, Lines.rowOf}
+use Rattle.table.specs.{declared.reading.Reading.Reading, Lines.linesOf, Lines.maxColumns, Lines.rowOf, Lines.under}
 
 -- The first line.
 abbrev pub header : List ℕ
@@ -34,9 +34,7 @@ recordsFrom before (line ∷ lines) =
 
 -- 2, then the lines under the header.
 abbrev pub underHeader : List (List ℕ) → Reading
-underHeader [] = refusedWith Refusal.NotHeader
-underHeader (line ∷ lines) =
-    cond (eqb (length line) (length header) && sameUpTo (length header) line header) (recordsFrom [] lines) (refusedWith Refusal.NotHeader)
+underHeader lines = under header lines (recordsFrom []) (refusedWith Refusal.NotHeader)
 
 -- The answer to reading a text: its jobs, or the refusal with no jobs; 1 comes first.
 unfoldable pub readingOf : List ℕ → Reading

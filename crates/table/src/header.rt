@@ -1,16 +1,15 @@
-// The first line of a table.
-ghost use Rattle.laws.specs.Words.{_≡_, _-_, cond, _&&_, leb, eqb, length, sameUpTo};
-ghost use Rattle.laws.proofs.Lines.{firstLine, afterLine};
-ghost use Rattle.table.specs.Tables.{header};
+// The first line of a text, where it is a header.
+ghost use Rattle.laws.specs.Words.{_≡_};
+ghost use Rattle.table.specs.Lines.{startsWith, endBehind};
 use crate::line::End;
 use crate::line::read_end;
 
-// The header, without the end of its line.
+// The header of a table, without the end of its line.
 pub const HEADER: [u8; 46] = *b"chain,job,release,priority,least,most,deadline";
 
 // Whether a text starts with these bytes.
 fn starts_with(text: &[u8], prefix: &[u8]) -> bool
-    ensures { λ r. let size = length (now (prefix .entry)) in ⌜ r ≡ leb size (length (now (text .entry))) && sameUpTo size (now (text .entry)) (now (prefix .entry)) ⌝ }
+    ensures { λ r. ⌜ r ≡ startsWith (now (prefix .entry)) (now (text .entry)) ⌝ }
 {
     let mut i: usize = 0;
     while i < prefix.len() {
@@ -25,12 +24,11 @@ fn starts_with(text: &[u8], prefix: &[u8]) -> bool
     true
 }
 
-// Whether the first line is the header, and how many bytes it takes with its end.
-pub(crate) fn read_header(text: &[u8]) -> End
-    ensures { λ r. let bytes = now (text .entry) in let line = firstLine bytes in ⌜ r ≡ cond (eqb (length line) (length header) && sameUpTo (length header) line header) (End.Here (length bytes - length (afterLine bytes))) End.Elsewhere ⌝ }
+// Whether a text starts with a header and the line ends behind it, and how many bytes the line takes with its end.
+pub fn read_header(text: &[u8], header: &[u8]) -> End
+    ensures { λ r. ⌜ r ≡ endBehind (now (header .entry)) (now (text .entry)) ⌝ }
 {
-    let header = HEADER;
-    if !starts_with(text, &header) {
+    if !starts_with(text, header) {
         return End::Elsewhere;
     }
     let End::Here { length } = read_end(&text[header.len()..]) else {

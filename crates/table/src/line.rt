@@ -1,8 +1,8 @@
 // One line of a table after the first: fields with single commas.
-ghost use Rattle.laws.specs.Words.{_≡_, _≤_, _<_, _+_, _-_, cond, none, some, eqb, [], length, drop, getD, padded};
-ghost use Rattle.laws.proofs.Lines.{firstLine, afterLine};
+ghost use Rattle.laws.specs.Words.{_≡_, _≤_, _<_, _+_, cond, eqb, none, drop, getD};
+ghost use Rattle.laws.specs.Lines.{firstLine, lineLength};
 ghost use Rattle.decimal.specs.Fields.{fieldOf};
-ghost use Rattle.table.specs.Lines.{maxColumns, rowOf};
+ghost use Rattle.table.specs.Lines.{maxColumns, rowOf, lineWith, lineOf, endOf};
 use decimal::field::Field;
 use decimal::field::read_field;
 use jobs::refusal::Check;
@@ -48,7 +48,7 @@ fn read_column(rest: &[u8], k: usize) -> Field
 
 // Whether the first line of rest is empty, which it is at the end of the text and before a CR LF, and how many bytes its end takes.
 pub(crate) fn read_end(rest: &[u8]) -> End
-    ensures { λ r. let bytes = now (rest .entry) in ⌜ r ≡ cond (eqb (length (firstLine bytes)) 0) (End.Here (length bytes - length (afterLine bytes))) End.Elsewhere ⌝ }
+    ensures { λ r. ⌜ r ≡ endOf (now (rest .entry)) ⌝ }
 {
     if rest.len() == 0 {
         return End::Here { length: 0 };
@@ -65,33 +65,52 @@ pub(crate) fn read_end(rest: &[u8]) -> End
     End::Here { length: 2 }
 }
 
+// The answer to a line that is not so many fields.
+fn malformed() -> Line
+    ensures { λ r. ⌜ r ≡ lineWith none 0 ⌝ }
+{
+    Line {
+        check: Check::Refused(Refusal::MalformedLine),
+        values: [0; MAX_COLUMNS],
+        length: 0,
+    }
+}
+
 // The first line of rest, where it is so many fields; each is read from where the last one ended.
-pub(crate) fn read_line(rest: &[u8], columns: usize) -> Line
+fn read_fields(rest: &[u8], columns: usize) -> Line
     requires { ⌜ (0 < columns) × (columns ≤ maxColumns) ⌝ }
-    ensures { λ r. let bytes = now (rest .entry) in ⌜ r ≡ elim (rowOf columns (firstLine bytes)) [ some values ↦ record { check = Check.Passed; values = padded maxColumns 0 values; length = length bytes - length (afterLine bytes) } | none ↦ record { check = Check.Refused Refusal.MalformedLine; values = padded maxColumns 0 []; length = 0 } ] ⌝ }
+    ensures { λ r. let bytes = now (rest .entry) in ⌜ r ≡ lineWith (rowOf columns (firstLine bytes)) (lineLength bytes) ⌝ }
 {
     let mut values = [0u64; MAX_COLUMNS];
-    let malformed = Line {
-        check: Check::Refused(Refusal::MalformedLine),
-        values,
-        length: 0,
-    };
     let mut at: usize = 0;
     let mut k: usize = 0;
     while k < columns {
         let Field::Number { value, length } = read_column(&rest[at..], k) else {
-            return malformed;
+            return malformed();
         };
         values[k] = value;
         at += length;
         k += 1;
     }
     let End::Here { length } = read_end(&rest[at..]) else {
-        return malformed;
+        return malformed();
     };
     Line {
         check: Check::Passed,
         values,
         length: at + length,
     }
+}
+
+// The first line of rest, where it is so many fields, of which a line has from 1 to MAX_COLUMNS.
+pub fn read_line(rest: &[u8], columns: usize) -> Line
+    ensures { λ r. ⌜ r ≡ lineOf columns (now (rest .entry)) ⌝ }
+{
+    if columns == 0 {
+        return malformed();
+    }
+    if MAX_COLUMNS < columns {
+        return malformed();
+    }
+    read_fields(rest, columns)
 }

@@ -1,6 +1,7 @@
 // A whole job table, from its text to the set of its jobs.
 ghost use Rattle.laws.specs.Words.{_≡_, []};
 ghost use Rattle.table.specs.{Lines.linesOf, Tables.jobOf, Tables.refusedWith, Tables.recordsFrom, Tables.readingOf};
+use crate::header::HEADER;
 use crate::header::read_header;
 use crate::line::End;
 use crate::line::MAX_COLUMNS;
@@ -87,7 +88,8 @@ pub fn read(text: &[u8]) -> Reading
     if MAX_TEXT < text.len() {
         return refused(Refusal::TextTooLong);
     }
-    let End::Here { length } = read_header(text) else {
+    let header = HEADER;
+    let End::Here { length } = read_header(text, &header) else {
         return refused(Refusal::NotHeader);
     };
     read_records(&text[length..])

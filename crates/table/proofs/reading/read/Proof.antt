@@ -13,15 +13,18 @@ use Rattle.table.proofs.reading.read.Tie as tie
 
 -- the records stand behind the header
 behind : (c : tie.After-known-told)
-    → let s = c .before .before .before .before .before .before in
+    → let s = c .before .before .before .before .before .before .before in
     (c .before .length .given .0 .0 ≤ length (s .args .text .now)) × (recordsFrom [] (linesOf (drop (c .before .length .given .0 .0) (s .args .text .now))) ≡ readingOf (s .args .text .now))
-behind c = under-header (c .before .before .before .before .before .before .args .text .now) (c .before .before .before .before .if1 .left) _ (sym (c .before .before .before .read-header .ensures) ∙ c .before .length .given .1)
+behind c = under-header (c .before .before .before .before .before .before .before .args .text .now) (c .before .before .before .before .before .if1 .left) _ (sym (c .before .before .before .read-header .ensures) ∙ c .before .length .given .1)
 
 refused-requires : tie.Need-refused-requires
 refused-requires c κs = search needs
 
 returns : tie.Need-returns
 returns c = c .refused .ensures ∙ too-long _ (c .before .if1 .taken)
+
+slice-aggregate-read-header : tie.Need-slice-aggregate-read-header
+slice-aggregate-read-header c = search needs
 
 read-header-requires : tie.Need-read-header-requires
 read-header-requires c κs = search needs
@@ -36,7 +39,7 @@ refused-requires-2 : tie.Need-refused-requires-2
 refused-requires-2 c κs = search needs
 
 returns-2 : tie.Need-returns-2
-returns-2 c = c .refused2 .ensures ∙ no-header _ (c .before .before .before .before .if1 .left) (sym (c .before .before .before .read-header .ensures) ∙ c .before .enum-told .given .1)
+returns-2 c = c .refused2 .ensures ∙ no-header _ (c .before .before .before .before .before .if1 .left) (sym (c .before .before .before .read-header .ensures) ∙ c .before .enum-told .given .1)
 
 sub-read-records : tie.Need-sub-read-records
 sub-read-records c = let h = behind c .0 in search (needs, h)
@@ -51,7 +54,7 @@ read-records-requires : tie.Need-read-records-requires
 read-records-requires c κs = search needs
 
 returns-3 : tie.Need-returns-3
-returns-3 c = rw (rest-is (c .before .before .before .length .given .0 .0) (c .before .before .before .before .before .before .before .before .args .text .now)) at (c .read-records .ensures) ∙ behind (c .before .before) .1
+returns-3 c = rw (rest-is (c .before .before .before .length .given .0 .0) (c .before .before .before .before .before .before .before .before .before .args .text .now)) at (c .read-records .ensures) ∙ behind (c .before .before) .1
 
 pub read-spec : {M : Type 1} → statement M
 read-spec =
@@ -59,6 +62,7 @@ read-spec =
     (tie.spec
     refused-requires
     returns
+    slice-aggregate-read-header
     read-header-requires
     enum-known-length
     enum-told

@@ -9,9 +9,8 @@ use Rattle.laws.proofs.Lists.{rest-is}
 use Rattle.jobs.specs.Limits.{maxJobs}
 use Rattle.jobs.specs.Checks.{recordCheck}
 use Rattle.jobs.proofs.Accepted.{record-fine}
-use Rattle.table.specs.Lines.{maxColumns}
+use Rattle.table.specs.Lines.{maxColumns, lineOf}
 use Rattle.table.specs.Tables.{jobOf}
-use Rattle.table.proofs.Rows.{lineOf}
 use Rattle.table.proofs.Records.{RecordsRead, records-none, records-empty, records-end, records-malformed, records-refused, records-forward, records-within, records-next}
 use Rattle.table.proofs.reading.read_records.Statement.{statement}
 use Rattle.table.proofs.reading.read_records.Tie as tie
