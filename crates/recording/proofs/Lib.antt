@@ -1,0 +1,5 @@
+pub mod Recordings
+pub mod RowsRead
+pub mod Headers
+pub mod Order
+pub mod Readable

@@ -20,9 +20,10 @@ maxRows = 256
 abbrev pub rowIn : List Job → List ℕ → Row
 rowIn js values = let at = getD values in row (placeIn js (at 0 0) (at 1 0)) (at 2 0) (at 3 0)
 
--- Whether a row may come after n others, the last of which is `last`: its job is in the table, and it begins before it ends and comes after the last.
-unfoldable pub isNextRow : List Job → ℕ → Row → Row → Bool
-isNextRow js n last r = ltb (r .at) (length js) && ltb (r .from) (r .to) && (eqb n 0 || follows last r)
+-- Whether a row of a table of so many jobs may come after n others, the last of which is `last`: its job is in the table, it begins before it ends, and
+-- it comes after the last.
+unfoldable pub isNextRow : ℕ → ℕ → Row → Row → Bool
+isNextRow jobs n last r = ltb (r .at) jobs && ltb (r .from) (r .to) && (eqb n 0 || follows last r)
 
 -- The answer that holds these rows.
 abbrev pub recordingWith : Check → List Row → Recording
@@ -42,7 +43,7 @@ rowsFrom js before (line ∷ lines) =
       | some values ↦
           let r = rowIn js values in
           let rest = rowsFrom js (before ++ (r ∷ [])) lines in
-          cond (isNextRow js (length before) (lastOf noRow before) r) rest (refusedWith Refusal.MalformedRecording)
+          cond (isNextRow (length js) (length before) (lastOf noRow before) r) rest (refusedWith Refusal.MalformedRecording)
     ])
     (refusedWith Refusal.TooManyRows)
 

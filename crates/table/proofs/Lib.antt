@@ -3,6 +3,7 @@ pub mod PlainLines
 pub mod Columns
 pub mod Rows
 pub mod Headers
+pub mod NextLine
 pub mod Records
 pub mod Tables
 pub mod Accepting
