@@ -3,7 +3,8 @@ use Rattle.laws.specs.Words.{ℕ, true, false, Option, none, some, List}
 use Rattle.jobs.specs.{declared.job.Job.Job, Refusals.onPass, Refusals.andThen}
 use Rattle.theory.specs.Table.{tableOf}
 use Rattle.recording.specs.Reading.{recordingOf, rowsOf}
-use Rattle.recorders.specs.{declared.difference.Difference.Difference, declared.compare.Compared.Compared, Legality.legal, Differences.firstDifference}
+use Rattle.legality.specs.{Legality.legal, Differences.firstDifference}
+use Rattle.recorders.specs.declared.{difference.Difference.Difference, compare.Compared.Compared}
 
 -- A first difference as code answers it.
 abbrev pub differenceAt : Option ℕ → Difference

@@ -1,6 +1,1 @@
-pub mod Recorded
-pub mod Legality
-pub mod Procedure
-pub mod Differences
 pub mod Comparing
-pub mod Claims

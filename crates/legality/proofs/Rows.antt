@@ -8,13 +8,14 @@ use mathlib.Core.List.{List, [], _∷_}
 use native.Mathlib.Omega.{arith}
 use native.Mathlib.Nat.{zero-add}
 use lib.ListN.{length, getD, List·getD-eq-default}
-use borrow.Author.Tests.{leb-true, ltb-true, le-leb, lt-leb, lt-ltb, le-ltb}
+use borrow.Author.Tests.{leb-true, le-leb, lt-leb, lt-ltb, le-ltb}
 use Rattle.laws.proofs.Tests.{by-order, and-parts}
 use Rattle.laws.proofs.Tabulate.{length-tabulate, getD-tabulate}
 use Rattle.theory.specs.Runs.{Entry, idle, runs}
 use Rattle.recording.specs.declared.row.Row.{Row}
 use Rattle.recording.specs.Rows.{follows, nextFollows, inOrder}
-use Rattle.recorders.specs.Recorded.{rowEntry, endFrom, endOf, recorded}
+use Rattle.recording.proofs.Order.{order-parts}
+use Rattle.legality.specs.Recorded.{rowEntry, endFrom, endOf, recorded}
 
 abbrev pub Rising : ℕ → List Row → Type 0
 Rising time [] = Unit {0}
@@ -26,21 +27,18 @@ unfolding follows
 follows-le before r h = leb-true (before .to) (r .from) (and-parts h .0)
 
 pub rising-after : (r : Row) (rs : List Row) → nextFollows r rs ≡ true → inOrder rs ≡ true → Rising (r .to) rs
-unfolding nextFollows inOrder
+unfolding nextFollows
 rising-after r [] f h = tt
 rising-after r (s ∷ rs) f h =
-    let all = and-parts h in
-    let own = and-parts (all .0) in
-    (follows-le r s f, ltb-true (s .from) (s .to) (own .0), rising-after s rs (own .1) (all .1))
+    let all = order-parts s rs h in
+    (follows-le r s f, all .0, rising-after s rs (all .1) (all .2))
 
 pub order-rising : (rows : List Row) → inOrder rows ≡ true → Rising 0 rows
-unfolding inOrder
 order-rising [] h = tt
 order-rising (r ∷ rs) h =
     let first : 0 ≤ r .from = omega arith in
-    let all = and-parts h in
-    let own = and-parts (all .0) in
-    (first, ltb-true (r .from) (r .to) (own .0), rising-after r rs (own .1) (all .1))
+    let all = order-parts r rs h in
+    (first, all .0, rising-after r rs (all .1) (all .2))
 
 -- ---- the entry of a tick before, in or after the first row
 module _ (r : Row) (rs : List Row) (n : ℕ) where

@@ -2,7 +2,7 @@
 use Rattle.laws.specs.Words.{ℕ, zero, suc, _≡_, Bool, true, false, _&&_, _||_, List, [], _∷_, _++_, leb, numberAt, everyBelow}
 use Rattle.theory.specs.{Table.Table, Runs.work, Runs.complete, Runs.isRun}
 use Rattle.recording.specs.declared.row.Row.{Row}
-use Rattle.recorders.specs.Recorded.{endOf, recorded}
+use Rattle.legality.specs.Recorded.{endOf, recorded}
 
 -- Whether rows show a run of demand 3 with these releases and running times, and with every job complete at the end of the last row.
 unfoldable pub isCompleteRun : Table → (ℕ → ℕ) → List ℕ → List Row → Bool

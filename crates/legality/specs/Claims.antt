@@ -4,7 +4,7 @@ use Rattle.jobs.specs.{declared.job.Job.Job, declared.refusal.Check.Check, Chec
 use Rattle.theory.specs.{Table.Table, Table.tableOf, Bounds.ert, Bounds.cja, Bounds.itr}
 use Rattle.machine.specs.{declared.trace.Span.Span, Ticks.machineCheck, Runs.traced}
 use Rattle.recording.specs.{declared.row.Row.Row, Rows.row, Rows.inOrder, Reading.maxRows}
-use Rattle.recorders.specs.{Recorded.rowEntry, Legality.legal, Legality.Legal, Procedure.done, Procedure.recordingFits, Differences.firstDifference, Differences.FirstAt}
+use Rattle.legality.specs.{Recorded.rowEntry, Legality.legal, Legality.Legal, Procedure.done, Procedure.recordingFits, Differences.firstDifference, Differences.FirstAt}
 
 -- Each job's last row ends no later than its bound.
 abbrev pub Kept : Table → List Row → List ℕ → Type 0

@@ -11,9 +11,9 @@ use Rattle.laws.proofs.Tests.{by-test, by-order}
 use Rattle.theory.specs.Runs.{runs, names, work}
 use Rattle.theory.proofs.Work.{same-job}
 use Rattle.recording.specs.declared.row.Row.{Row}
-use Rattle.recorders.specs.Recorded.{rowEntry, endFrom, recorded}
-use Rattle.recorders.specs.Procedure.{total, begin, done}
-use Rattle.recorders.proofs.Rows.{Rising, by-row, entry-in, entry-before, entry-after, idle-before, idle-runs, end-le, recorded-entry}
+use Rattle.legality.specs.Recorded.{rowEntry, endFrom, recorded}
+use Rattle.legality.specs.Procedure.{total, begin, done}
+use Rattle.legality.proofs.Rows.{Rising, by-row, entry-in, entry-before, entry-after, idle-before, idle-runs, end-le, recorded-entry}
 
 -- what a row has given by time n
 unfoldable pub given : Row → ℕ → ℕ

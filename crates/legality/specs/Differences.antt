@@ -4,7 +4,7 @@
 -- Assumes nothing.
 use Rattle.laws.specs.Words.{ℕ, _<_, min, _≡_, _≢_, cond, _&&_, Option, none, some, List, [], _∷_, eqb}
 use Rattle.recording.specs.declared.row.Row.{Row}
-use Rattle.recorders.specs.Recorded.{rowEntry}
+use Rattle.legality.specs.Recorded.{rowEntry}
 
 -- The first tick at which two recordings with rows in order differ: where the rows do that are the first to differ in begin, job or end.
 unfoldable pub firstDifference : List Row → List Row → Option ℕ

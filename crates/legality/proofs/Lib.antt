@@ -1,0 +1,10 @@
+pub mod Rows
+pub mod Work
+pub mod Readiness
+pub mod Stretches
+pub mod Choices
+pub mod Deciding
+pub mod Differences
+pub mod TracedRows
+pub mod OwnTrace
+pub mod Claims

@@ -1,0 +1,1 @@
+// Which recordings are legal, and where two differ: specs/ and proofs/ alone.
