@@ -1,5 +1,5 @@
 /* Cudlomer: how late each job of a set can be complete and whose jobs delay it, whether all deadlines are met, whether a further chain may come
- * aboard, and what runs at each tick.
+ * aboard, what runs at each tick, and whether two recordings of a run are legal and show the same.
  *
  * A set is an array of jobs, chain by chain: chains count from 1, jobs from 1 within their chain. It comes from the text of a table, the header
  * line `chain,job,release,priority,least,most,deadline` and then a line for each job, each line ended by CR LF, which the last may lack; or a
@@ -37,6 +37,7 @@ extern "C" {
 #define CUDLOMER_MAX_WAVEFORM (128 * CUDLOMER_MAX_JOBS)
 #define CUDLOMER_MAX_ROWS (2 * CUDLOMER_MAX_JOBS)
 #define CUDLOMER_MAX_BLOCKS (CUDLOMER_MAX_JOBS * (2 * CUDLOMER_MAX_CHAINS + 1))
+#define CUDLOMER_MAX_RECORDED_ROWS 256 /* of a recording */
 #define CUDLOMER_MAX_RELEASE UINT64_C(1000000000)
 #define CUDLOMER_MAX_PRIORITY UINT64_C(255)
 #define CUDLOMER_MAX_TIME UINT64_C(1000000) /* of least and most */
@@ -57,7 +58,8 @@ enum cudlomer_ticked {
 };
 
 /* The numbers of refusals. Of a bad set the first bad job decides, which is checked for 4, 5, 6, 12, 13 and 14 in this order; 7 comes last. Of a bad
- * text 1 and 2 come first; then the first bad line decides, which is checked for 3, then as a job; 7 comes last. */
+ * text 1 and 2 come first; then the first bad line decides, which is checked for 3, then as a job; 7 comes last. Of a bad recording the first bad line
+ * decides: 16 for any line behind 256 rows, whatever it holds, else 15. */
 enum cudlomer_refusal {
     CUDLOMER_TEXT_TOO_LONG = 1,                /* the text is longer than 4,096 bytes */
     CUDLOMER_NOT_HEADER = 2,                   /* the first line is not the header */
@@ -72,7 +74,9 @@ enum cudlomer_refusal {
     CUDLOMER_IMPOSSIBLE_STATE = 11,            /* the state cannot be */
     CUDLOMER_PRIORITY_OUT_OF_LIMITS = 12,      /* a priority is beyond 255 */
     CUDLOMER_LEAST_OR_MOST_OUT_OF_LIMITS = 13, /* a least or a most is not from 1 to 1,000,000 */
-    CUDLOMER_LEAST_ABOVE_MOST = 14             /* a least is above its most */
+    CUDLOMER_LEAST_ABOVE_MOST = 14,            /* a least is above its most */
+    CUDLOMER_MALFORMED_RECORDING = 15,         /* a recording's header, line or field is wrong, or a row is out of order */
+    CUDLOMER_TOO_MANY_ROWS = 16                /* a recording has more than 256 rows */
 };
 
 /* A job. Least is from 1 to most; release, priority and deadline may be 0. A later job of a chain counts as released no earlier than its
@@ -88,7 +92,7 @@ struct cudlomer_state {
     uint64_t time, work[CUDLOMER_MAX_JOBS], completions[CUDLOMER_MAX_JOBS];
 };
 
-/* A row of a trace: the job runs from one time to another without a break. */
+/* A row of a trace or recording: the job runs from one time to another without a break. */
 struct cudlomer_row {
     uint64_t chain, job, from, to;
 };
@@ -97,6 +101,12 @@ struct cudlomer_row {
  * job, and no longer run of such jobs has them. */
 struct cudlomer_block {
     uint64_t first, last;
+};
+
+/* How two recordings compare: whether each is legal and whether they differ, 1 for yes and 0 for no, and the first tick at which they do, 0 where
+ * they do not. */
+struct cudlomer_comparison {
+    uint64_t first_legal, second_legal, differ, tick;
 };
 
 /* How many numbers so many structs are. */
@@ -123,6 +133,11 @@ CUDLOMER_PLACE(cudlomer_row, job, 1);
 CUDLOMER_PLACE(cudlomer_row, from, 2);
 CUDLOMER_PLACE(cudlomer_row, to, 3);
 CUDLOMER_SIZE(cudlomer_row, 4);
+CUDLOMER_PLACE(cudlomer_comparison, first_legal, 0);
+CUDLOMER_PLACE(cudlomer_comparison, second_legal, 1);
+CUDLOMER_PLACE(cudlomer_comparison, differ, 2);
+CUDLOMER_PLACE(cudlomer_comparison, tick, 3);
+CUDLOMER_SIZE(cudlomer_comparison, 4);
 
 /* ---- On texts ---- */
 
@@ -144,8 +159,9 @@ int64_t cudlomer_rounds(const uint8_t *text, size_t text_length);
 /* ---- On sets, as plain numbers ----
  *
  * Each does what the function on structs of the same name does, which is told there. A job is seven numbers in the order of the columns, a row
- * four, a state 129: the time, 64 numbers of work and 64 of completions; a tick refuses a shorter one with 9, before 11. A length counts numbers,
- * or the bytes of a text. Where jobs_length is no multiple of seven, the last job's missing numbers are 0. */
+ * four, a state 129: the time, 64 numbers of work and 64 of completions; a tick refuses a shorter one with 9, before 11. A comparison is four
+ * numbers, and is refused with 9, last of all, where there is not room for them. A length counts numbers, or the bytes of a text. Where jobs_length is
+ * no multiple of seven, the last job's missing numbers are 0. */
 int64_t cudlomer_set_read(const uint8_t *text, size_t text_length, uint64_t *jobs, size_t jobs_length);
 int64_t cudlomer_set_write(const uint64_t *jobs, size_t jobs_length, uint8_t *out, size_t out_length);
 int64_t cudlomer_set_bounds(const uint64_t *jobs, size_t jobs_length, uint64_t algorithm, uint64_t *out, size_t out_length);
@@ -160,6 +176,8 @@ int64_t cudlomer_set_trace(const uint64_t *jobs, size_t jobs_length, const uint6
                            size_t out_length);
 int64_t cudlomer_set_waveform(const uint64_t *jobs, size_t jobs_length, const uint64_t *times, size_t times_length, uint8_t *out,
                               size_t out_length);
+int64_t cudlomer_set_compare(const uint64_t *jobs, size_t jobs_length, const uint8_t *first, size_t first_length, const uint8_t *second,
+                             size_t second_length, uint64_t *out, size_t out_length);
 
 /* ---- On sets, as structs ----
  *
@@ -295,6 +313,20 @@ static inline int64_t cudlomer_jobs_waveform(const struct cudlomer_job *jobs, si
                                              uint8_t *out, size_t out_length)
 {
     return cudlomer_set_waveform((const uint64_t *)jobs, CUDLOMER_NUMBERS(cudlomer_job, count), times, times_count, out, out_length);
+}
+
+/* Compares two recordings of the set's jobs, whoever wrote them. A recording is a text: the header line `chain,job,from,to`, then a row for each time
+ * that a job runs without a break, the earliest first, with lines and numbers as in a table, and of any length. It is legal where it shows all jobs
+ * run to their ends, each for some time from its least to its most, and at each tick the most urgent of the ready jobs, equals in any order. They
+ * differ at a tick at which they show different jobs, or one shows a job and the other none, as each does behind its last row; also recordings that are
+ * not legal are compared. Writes the comparison, and answers how many numbers that is, 4. Refuses a bad set, then the first recording and then the
+ * second, each with 15 where its header or a line is wrong, or a row names no job of the set, does not begin before it ends, begins before the row
+ * before it ends, or goes on with that row's job without a gap; and with 16 where anything stands behind 256 rows. */
+static inline int64_t cudlomer_jobs_compare(const struct cudlomer_job *jobs, size_t count, const uint8_t *first, size_t first_length,
+                                            const uint8_t *second, size_t second_length, struct cudlomer_comparison *comparison)
+{
+    return cudlomer_set_compare((const uint64_t *)jobs, CUDLOMER_NUMBERS(cudlomer_job, count), first, first_length, second, second_length,
+                                (uint64_t *)comparison, CUDLOMER_NUMBERS(cudlomer_comparison, 1));
 }
 
 #ifdef __cplusplus
