@@ -58,8 +58,8 @@ enum cudlomer_ticked {
 };
 
 /* The numbers of refusals. Of a bad set the first bad job decides, which is checked for 4, 5, 6, 12, 13 and 14 in this order; 7 comes last. Of a bad
- * text 1 and 2 come first; then the first bad line decides, which is checked for 3, then as a job; 7 comes last. Of a bad recording the first bad line
- * decides: 16 for any line behind 256 rows, whatever it holds, else 15. */
+ * text 1 and 2 come first; then the first bad line decides, which is checked for 3, then as a job; 7 comes last. Of a bad recording the first bad
+ * line decides: 16 for any line behind 256 rows, whatever it holds, else 15. */
 enum cudlomer_refusal {
     CUDLOMER_TEXT_TOO_LONG = 1,                /* the text is longer than 4,096 bytes */
     CUDLOMER_NOT_HEADER = 2,                   /* the first line is not the header */
@@ -160,8 +160,8 @@ int64_t cudlomer_rounds(const uint8_t *text, size_t text_length);
  *
  * Each does what the function on structs of the same name does, which is told there. A job is seven numbers in the order of the columns, a row
  * four, a state 129: the time, 64 numbers of work and 64 of completions; a tick refuses a shorter one with 9, before 11. A comparison is four
- * numbers, and is refused with 9, last of all, where there is not room for them. A length counts numbers, or the bytes of a text. Where jobs_length is
- * no multiple of seven, the last job's missing numbers are 0. */
+ * numbers, and is refused with 9, last of all, where there is not room for them. A length counts numbers, or the bytes of a text. Where
+ * jobs_length is no multiple of seven, the last job's missing numbers are 0. */
 int64_t cudlomer_set_read(const uint8_t *text, size_t text_length, uint64_t *jobs, size_t jobs_length);
 int64_t cudlomer_set_write(const uint64_t *jobs, size_t jobs_length, uint8_t *out, size_t out_length);
 int64_t cudlomer_set_bounds(const uint64_t *jobs, size_t jobs_length, uint64_t algorithm, uint64_t *out, size_t out_length);
@@ -315,13 +315,13 @@ static inline int64_t cudlomer_jobs_waveform(const struct cudlomer_job *jobs, si
     return cudlomer_set_waveform((const uint64_t *)jobs, CUDLOMER_NUMBERS(cudlomer_job, count), times, times_count, out, out_length);
 }
 
-/* Compares two recordings of the set's jobs, whoever wrote them. A recording is a text: the header line `chain,job,from,to`, then a row for each time
- * that a job runs without a break, the earliest first, with lines and numbers as in a table, and of any length. It is legal where it shows all jobs
- * run to their ends, each for some time from its least to its most, and at each tick the most urgent of the ready jobs, equals in any order. They
- * differ at a tick at which they show different jobs, or one shows a job and the other none, as each does behind its last row; also recordings that are
- * not legal are compared. Writes the comparison, and answers how many numbers that is, 4. Refuses a bad set, then the first recording and then the
- * second, each with 15 where its header or a line is wrong, or a row names no job of the set, does not begin before it ends, begins before the row
- * before it ends, or goes on with that row's job without a gap; and with 16 where anything stands behind 256 rows. */
+/* Compares two recordings of the set's jobs, whoever wrote them. A recording is a text of any length: the header line `chain,job,from,to`, then a
+ * row for each time that a job runs without a break, the earliest first, with lines and numbers as in a table. It is legal where each job runs to
+ * its end, for some time from its least to its most, and at each tick one of the most urgent ready jobs runs, equals in any order, or none where
+ * none is ready. Recordings differ at a tick at which they show different jobs, or one of them a job and the other none, as each does behind its
+ * last row; those that are not legal are compared too. Writes the comparison, and answers how many numbers it is, 4. Refuses a bad set, then the
+ * first recording, then the second: with 15 where the header or a line is wrong, or a row names no job of the set, does not begin before it ends,
+ * begins before the end of the row before it, or goes on with the job of that row without a gap; with 16 where anything stands behind 256 rows. */
 static inline int64_t cudlomer_jobs_compare(const struct cudlomer_job *jobs, size_t count, const uint8_t *first, size_t first_length,
                                             const uint8_t *second, size_t second_length, struct cudlomer_comparison *comparison)
 {

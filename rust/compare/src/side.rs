@@ -39,4 +39,5 @@ pub struct Side {
     pub set_run: fn(&[u64], &[u64], &mut [u64]) -> Answer,
     pub set_trace: fn(&[u64], &[u64], &mut [u64]) -> Answer,
     pub set_waveform: fn(&[u64], &[u64], &mut [u8]) -> Answer,
+    pub set_compare: fn(&[u64], &[u8], &[u8], &mut [u64]) -> Answer,
 }

@@ -31,4 +31,14 @@ extern "C" {
         out: *mut u8,
         out_length: usize,
     ) -> i64;
+    pub fn cudlomer_set_compare(
+        jobs: *const u64,
+        jobs_length: usize,
+        first: *const u8,
+        first_length: usize,
+        second: *const u8,
+        second_length: usize,
+        out: *mut u64,
+        out_length: usize,
+    ) -> i64;
 }

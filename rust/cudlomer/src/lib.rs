@@ -1,4 +1,4 @@
-//! A safe wrapper over the C functions of the part: sets of jobs, and texts of tables. Nothing here allocates memory.
+//! A safe wrapper over the C functions of the part: sets of jobs, texts of tables, and recordings. Nothing here allocates memory.
 //!
 //! A set comes from the text of a table, a further chain is admitted, and the loop ticks:
 //!
@@ -25,6 +25,7 @@
 
 #![no_std]
 
+mod comparison;
 mod delays;
 pub mod ffi;
 mod job;
@@ -33,6 +34,7 @@ mod refused;
 mod set;
 mod text;
 
+pub use comparison::Comparison;
 pub use delays::{Block, Delays};
 pub use job::Job;
 pub use machine::{Row, Run, State, Ticked, Times, Trace};

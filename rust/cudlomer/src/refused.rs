@@ -3,7 +3,8 @@
 use core::fmt;
 
 /// The number of a refusal. Of bad jobs the first decides, which is checked for 4, 5, 6, 12, 13 and 14 in this order; 7 comes last. Of a bad text 1
-/// and 2 come first; then the first bad line decides, which is checked for 3, then as a job; 7 comes last.
+/// and 2 come first; then the first bad line decides, which is checked for 3, then as a job; 7 comes last. Of a bad recording the first bad line
+/// decides: 16 for any line behind 256 rows, whatever it holds, else 15.
 ///
 /// So each of two tools that fill a table can be told its own fault:
 ///
@@ -46,6 +47,8 @@ named! {
     PRIORITY_OUT_OF_LIMITS = 12, "A priority is beyond 255.";
     LEAST_OR_MOST_OUT_OF_LIMITS = 13, "A least or a most is not from 1 to 1,000,000.";
     LEAST_ABOVE_MOST = 14, "A least is above its most.";
+    MALFORMED_RECORDING = 15, "A recording's header, line or field is wrong, or a row is out of order.";
+    TOO_MANY_ROWS = 16, "A recording has more than 256 rows.";
 }
 
 impl fmt::Display for Refused {

@@ -196,11 +196,11 @@ impl Set {
         counted(unsafe { ffi::cudlomer_set_waveform(self.numbers(), self.length(), times.ticks.as_ptr(), times.count, lent, room) })
     }
 
-    fn numbers(&self) -> *const u64 {
+    pub(crate) fn numbers(&self) -> *const u64 {
         self.jobs.as_ptr().cast()
     }
 
-    fn length(&self) -> usize {
+    pub(crate) fn length(&self) -> usize {
         self.count * Job::NUMBERS
     }
 }

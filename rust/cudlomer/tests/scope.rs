@@ -1,6 +1,6 @@
 //! The tables with known results of the scope, by the wrapper.
 
-use cudlomer::{Algorithm, Block, Delays, Job, Refused, Row, Set, State, Ticked, Verdict};
+use cudlomer::{Algorithm, Block, Comparison, Delays, Job, Refused, Row, Set, State, Ticked, Verdict};
 
 const HEADER: &str = "chain,job,release,priority,least,most,deadline\r\n";
 
@@ -99,6 +99,71 @@ fn waveform_of_p4() {
     assert_eq!(set.waveform(&set.times(|_| 2), &mut out), Err(Refused(8)));
 }
 
+/// A recording with these rows.
+fn recording(rows: &[&str]) -> String {
+    "chain,job,from,to\r\n".to_owned() + &rows.iter().map(|row| (*row).to_owned() + "\r\n").collect::<String>()
+}
+
+fn compared(set: &Set, first: &[&str], second: &[&str]) -> Result<Comparison, Refused> {
+    set.compare(recording(first).as_bytes(), recording(second).as_bytes())
+}
+
+fn legal(difference: Option<u64>) -> Result<Comparison, Refused> {
+    Ok(Comparison { first_legal: true, second_legal: true, difference })
+}
+
+/// The runs of P2 and P3 are complete runs of P1, and at 30 one has job 1 of chain 2 and the other job 2 of chain 1.
+#[test]
+fn recordings_of_p1() {
+    let last = ["2,2,60,110", "1,3,110,160", "1,4,160,245"];
+    let p2 = [&["1,1,0,30", "2,1,30,40", "1,1,40,50", "1,2,50,60"][..], &last].concat();
+    let p3 = [&["1,1,0,30", "1,2,30,40", "2,1,40,50"][..], &last].concat();
+    assert_eq!([compared(&p1(), &p2, &p2), compared(&p1(), &p2, &p3), compared(&p1(), &p3, &p2)], [legal(None), legal(Some(30)), legal(Some(30))]);
+    let short = Comparison { first_legal: false, second_legal: true, difference: Some(160) };
+    assert_eq!(compared(&p1(), &p2[..6], &p2), Ok(short));
+}
+
+/// P5, two equals: in either order and by turns they are legal, and an idle tick is not while one of them is ready.
+#[test]
+fn recordings_of_equals() {
+    let set = read("1,1,0,1,4,4,8\r\n2,1,0,1,4,4,8\r\n");
+    let (chain_1_first, chain_2_first) = (["1,1,0,4", "2,1,4,8"], ["2,1,0,4", "1,1,4,8"]);
+    let by_turns = ["1,1,0,1", "2,1,1,2", "1,1,2,5", "2,1,5,8"];
+    assert_eq!(compared(&set, &chain_1_first, &chain_2_first), legal(Some(0)));
+    assert_eq!(compared(&set, &by_turns, &chain_1_first), legal(Some(1)));
+    let with_a_gap = Comparison { first_legal: false, second_legal: true, difference: Some(4) };
+    assert_eq!(compared(&set, &["1,1,0,4", "2,1,5,9"], &chain_1_first), Ok(with_a_gap));
+    let neither = Comparison { first_legal: false, second_legal: false, difference: None };
+    assert_eq!(compared(&set, &[], &[]), Ok(neither));
+}
+
+#[test]
+fn recordings_that_are_refused() {
+    let set = Set::of(&[p4(12)]).unwrap();
+    let malformed = ["", "1,1,5", "1,1,5,8,9", "1,1,05,8", "1,1,5,12345678901", "1,2,5,8", "2,1,5,8", "1,1,8,8", "1,1,9,8"];
+    for row in malformed {
+        assert_eq!(compared(&set, &[row], &["1,1,5,8"]), Err(Refused::MALFORMED_RECORDING), "{row}");
+    }
+    let rows = [["1,1,5,8", "1,1,7,9"], ["1,1,5,8", "1,1,8,9"]];
+    assert_eq!(rows.map(|second| compared(&set, &["1,1,5,8"], &second)), [Err(Refused::MALFORMED_RECORDING); 2]);
+    assert_eq!([set.compare(b"", b""), set.compare(b"chain,job,from,to\n", b"")], [Err(Refused::MALFORMED_RECORDING); 2]);
+    assert_eq!(Set::EMPTY.compare(b"", b""), Err(Refused::NO_RECORD));
+}
+
+/// Two equals by turns, tick by tick: 256 rows are read, and what stands behind them is not.
+#[test]
+fn recordings_of_256_rows() {
+    let set = read("1,1,0,1,1,1000,9999\r\n2,1,0,1,1,1000,9999\r\n");
+    let by_turns = |rows: u64| (0..rows).map(|tick| format!("{},1,{tick},{}\r\n", 1 + tick % 2, tick + 1)).collect::<String>();
+    let most = recording(&[]) + &by_turns(Set::MAX_RECORDED_ROWS as u64);
+    assert_eq!(set.compare(most.as_bytes(), most.trim_end().as_bytes()), legal(None));
+    for more in ["1,1,256,257\r\n", "a", "\r\n", "\r"] {
+        let too_many = most.clone() + more;
+        assert_eq!(set.compare(most.as_bytes(), too_many.as_bytes()), Err(Refused::TOO_MANY_ROWS));
+        assert_eq!(set.compare(b"", too_many.as_bytes()), Err(Refused::MALFORMED_RECORDING));
+    }
+}
+
 #[test]
 fn a_chain_is_admitted_or_not() {
     let mut set = Set::EMPTY;
@@ -149,7 +214,7 @@ fn refusals_are_named() {
     let wrapper = include_str!("../src/refused.rs");
     let body = header.split("enum cudlomer_refusal {").nth(1).unwrap().split("};").next().unwrap();
     let named: Vec<&str> = body.lines().filter_map(|line| line.trim().strip_prefix("CUDLOMER_")?.split([',', '/']).next()).collect();
-    assert_eq!(named.len(), 14);
+    assert_eq!(named.len(), 16);
     for constant in named {
         assert!(wrapper.contains(&format!("    {}, ", constant.trim())), "{constant}");
     }

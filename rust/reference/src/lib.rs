@@ -1,10 +1,11 @@
-//! The table, the bounds, the blocks that they count, the machine and its waveforms in plain Rust, from the paper, the scope and its changes alone. It
-//! shares nothing with the proved part.
+//! The table, the bounds, the blocks that they count, the machine, its waveforms and recordings in plain Rust, from the paper, the scope and its
+//! changes alone. It shares nothing with the proved part.
 
 pub mod blocks;
 pub mod bounds;
 pub mod dump;
 pub mod machine;
+pub mod recording;
 pub mod set;
 pub mod table;
 pub mod text;

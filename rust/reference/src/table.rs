@@ -15,7 +15,7 @@ pub fn read(text: &[u8]) -> Result<Vec<Job>, u8> {
     }
     let mut jobs: Vec<Job> = Vec::new();
     for line in lines {
-        let job = Job::of(&fields(line).ok_or(3)?);
+        let job = Job::of(&fields::<7>(line).ok_or(3)?);
         set::check_record(&jobs, &job)?;
         jobs.push(job);
     }
@@ -24,7 +24,7 @@ pub fn read(text: &[u8]) -> Result<Vec<Job>, u8> {
 }
 
 /// The lines before each CR LF, and what is left after the last one, if anything.
-fn lines(text: &[u8]) -> Vec<&[u8]> {
+pub fn lines(text: &[u8]) -> Vec<&[u8]> {
     let mut out = Vec::new();
     let mut rest = text;
     while !rest.is_empty() {
@@ -42,12 +42,13 @@ fn lines(text: &[u8]) -> Vec<&[u8]> {
     out
 }
 
-fn fields(line: &[u8]) -> Option<[u64; 7]> {
+/// The numbers of a line, where it is so many with single commas.
+pub fn fields<const COLUMNS: usize>(line: &[u8]) -> Option<[u64; COLUMNS]> {
     let parts: Vec<&[u8]> = line.split(|b| *b == b',').collect();
-    if parts.len() != 7 {
+    if parts.len() != COLUMNS {
         return None;
     }
-    let mut values = [0; 7];
+    let mut values = [0; COLUMNS];
     for (value, part) in values.iter_mut().zip(parts) {
         *value = number(part)?;
     }

@@ -1,6 +1,7 @@
 //! The text of a table, and what the programs print.
 
-use crate::{blocks, bounds, machine, table::HEADER, Job};
+use crate::machine::{self, Span};
+use crate::{blocks, bounds, recording, table::HEADER, Job};
 
 pub fn table_text(jobs: &[Job]) -> String {
     let mut out = String::from(HEADER) + "\r\n";
@@ -33,8 +34,13 @@ pub fn blocks_text(jobs: &[Job]) -> String {
 
 pub fn trace_text(jobs: &[Job]) -> String {
     let most: Vec<u64> = jobs.iter().map(|j| j.most).collect();
-    let mut out = String::from("chain,job,from,to\r\n");
-    for s in machine::trace(jobs, &most) {
+    rows_text(&machine::trace(jobs, &most))
+}
+
+/// The rows of a trace or recording under their header.
+pub fn rows_text(spans: &[Span]) -> String {
+    let mut out = String::from(recording::HEADER) + "\r\n";
+    for s in spans {
         out += &format!("{},{},{},{}\r\n", s.chain, s.job, s.from, s.to);
     }
     out

@@ -32,6 +32,12 @@ fn on_text(function: OnText, text: &[u8], out: &mut [u8]) -> Answer {
     answer(unsafe { function(text.as_ptr(), text.len(), out.as_mut_ptr(), out.len()) })
 }
 
+fn set_compare(jobs: &[u64], first: &[u8], second: &[u8], out: &mut [u64]) -> Answer {
+    let ((one, one_length), (other, other_length)) = ((first.as_ptr(), first.len()), (second.as_ptr(), second.len()));
+    // It reads within the first three slices and writes within the fourth.
+    answer(unsafe { ffi::cudlomer_set_compare(jobs.as_ptr(), jobs.len(), one, one_length, other, other_length, out.as_mut_ptr(), out.len()) })
+}
+
 pub const PART: Side = Side {
     bounds: |text, out| on_text(ffi::cudlomer_bounds, text, out),
     trace: |text, out| on_text(ffi::cudlomer_trace, text, out),
@@ -57,4 +63,5 @@ pub const PART: Side = Side {
     set_run: |jobs, times, out| on_times(ffi::cudlomer_set_run, jobs, times, out),
     set_trace: |jobs, times, out| on_times(ffi::cudlomer_set_trace, jobs, times, out),
     set_waveform: |jobs, times, out| on_times(ffi::cudlomer_set_waveform, jobs, times, out),
+    set_compare,
 };

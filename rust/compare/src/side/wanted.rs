@@ -2,7 +2,7 @@
 
 use super::{completion_place, work_place, Answer, Side, STATE};
 use reference::machine::{self, State, Ticked};
-use reference::{blocks, bounds, set, table, text, waveform, Job};
+use reference::{blocks, bounds, recording, set, table, text, waveform, Job};
 
 /// The jobs that numbers are; those missing of the last are 0.
 pub fn jobs_of(numbers: &[u64]) -> Vec<Job> {
@@ -88,6 +88,12 @@ fn set_trace(numbers: &[u64], times: &[u64], out: &mut [u64]) -> Answer {
     put(&rows, out).map(|numbers| numbers / 4)
 }
 
+fn set_compare(numbers: &[u64], first: &[u8], second: &[u8], out: &mut [u64]) -> Answer {
+    let compared = recording::compare(&jobs_of(numbers), first, second)?;
+    let (differ, tick) = (compared.difference.is_some(), compared.difference.unwrap_or(0));
+    put(&[compared.first_legal.into(), compared.second_legal.into(), differ.into(), tick], out)
+}
+
 pub const WANTED: Side = Side {
     bounds: |text, out| put(text::bounds_text(&table::read(text)?).as_bytes(), out),
     trace: |text, out| put(text::trace_text(&table::read(text)?).as_bytes(), out),
@@ -104,4 +110,5 @@ pub const WANTED: Side = Side {
     set_run,
     set_trace,
     set_waveform: |jobs, times, out| put(waveform::waveform_text(&timed(jobs, times)?, times).as_bytes(), out),
+    set_compare,
 };
