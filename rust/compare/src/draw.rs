@@ -1,6 +1,6 @@
 //! Tables, chains, running times and damaged texts from a seed.
 
-use reference::{table::HEADER, text, Job};
+use reference::{text, Job};
 
 #[derive(Clone, Copy)]
 pub enum Kind {
@@ -127,15 +127,14 @@ impl Draw {
         out
     }
 
-    /// The text with a few bytes changed, left out, put in or cut off.
-    pub fn damaged_text(&mut self, text: &[u8]) -> Vec<u8> {
+    /// The text with a few bytes changed, left out, put in or cut off, mostly behind its header.
+    pub fn damaged_text(&mut self, header: &str, text: &[u8]) -> Vec<u8> {
         let mut out = text.to_vec();
         for _ in 0..self.range(1, 3) {
             if out.is_empty() {
                 break;
             }
-            // the header is left alone mostly, so that the records are reached
-            let from = if self.one_in(8) { 0 } else { HEADER.len().min(out.len() - 1) };
+            let from = if self.one_in(8) { 0 } else { header.len().min(out.len() - 1) };
             let at = self.range(from as u64, out.len() as u64 - 1) as usize;
             let byte = *b"0123456789,,,\r\n\r\n -a\x00\xff".get((self.next() % 22) as usize).unwrap();
             match self.next() % 4 {

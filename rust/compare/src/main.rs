@@ -1,4 +1,4 @@
-//! Holds the proved part and the plain reference side by side, on tables and sets drawn from fixed seeds and on damaged ones.
+//! Holds the proved part and the plain reference side by side, on tables, sets and recordings drawn from fixed seeds and on damaged ones.
 
 mod admission;
 mod blocks;
@@ -6,6 +6,8 @@ mod damage;
 mod draw;
 mod faults;
 mod machine;
+mod recordings;
+mod runs;
 mod sets;
 mod side;
 mod states;
@@ -38,6 +40,7 @@ fn main() {
             wrapper::compare(&mut tally, &mut draw, kind, &jobs);
         }
     }
+    recordings::compare(&mut tally, &mut draw);
     if !tally.close() {
         std::process::exit(1);
     }

@@ -9,6 +9,9 @@ pub use wanted::{jobs_of, numbers_of, WANTED};
 /// A number from 0 on, or the number of a refusal.
 pub type Answer = Result<i64, i64>;
 
+/// Two texts that are recordings or not.
+pub type Pair<'a> = [&'a [u8]; 2];
+
 /// How many numbers a machine's state is: the time, and for each of 64 jobs its work and its completion.
 pub const STATE: usize = 129;
 
@@ -39,5 +42,5 @@ pub struct Side {
     pub set_run: fn(&[u64], &[u64], &mut [u64]) -> Answer,
     pub set_trace: fn(&[u64], &[u64], &mut [u64]) -> Answer,
     pub set_waveform: fn(&[u64], &[u64], &mut [u8]) -> Answer,
-    pub set_compare: fn(&[u64], &[u8], &[u8], &mut [u64]) -> Answer,
+    pub set_compare: fn(&[u64], Pair, &mut [u64]) -> Answer,
 }

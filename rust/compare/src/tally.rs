@@ -1,16 +1,16 @@
-//! Counts what agrees, what does not, how often each refusal and each case of delays was met, and how many runs readiness decides.
+//! Counts what agrees, what does not, how often each refusal and each case was met, and how many runs readiness decides.
 
 use crate::side::{Answer, Side, PART, WANTED};
 use std::collections::BTreeMap;
 use std::fmt::Debug;
 
 /// The numbers of refusals go up to this.
-const REFUSALS: usize = 14;
+const REFUSALS: usize = 16;
 
 /// So many disagreements are printed.
 const PRINTED: u64 = 20;
 
-/// Each case of delays has to be met more often than this.
+/// Each case has to be met more often than this.
 const SELDOM: u64 = 100;
 
 #[derive(Default)]
@@ -63,7 +63,7 @@ impl Tally {
         }
     }
 
-    /// Counts whether a case of delays is met here.
+    /// Counts whether a case is met here.
     pub fn case(&mut self, case: &'static str, met: bool) {
         *self.cases.entry(case).or_default() += u64::from(met);
     }
@@ -74,18 +74,18 @@ impl Tally {
         self.decided += u64::from(decided);
     }
 
-    /// Prints the counts, and answers whether all agreed, each refusal was met, each case of delays not seldom, and readiness decided many runs.
+    /// Prints the counts, and answers whether all agreed, each refusal was met, each case not seldom, and readiness decided many runs.
     pub fn close(&mut self) -> bool {
         for number in 1..=REFUSALS {
             self.same("refusals met", &number, self.met[number] > 0, true);
         }
         for (case, met) in self.cases.clone() {
-            self.same("delays met", &case, met > SELDOM, true);
+            self.same("cases met", &case, met > SELDOM, true);
         }
         let (decided, runs) = (self.decided, self.runs);
         self.same("runs that readiness decides", &(decided, runs), decided > runs / 4, true);
         println!("compare: refusals met, from 1 on: {:?}", &self.met[1..]);
-        println!("compare: delays met: {:?}", self.cases);
+        println!("compare: cases met: {:?}", self.cases);
         println!("compare: readiness decides {decided} of {runs} runs");
         println!("{} passed, {} failed", self.passed, self.failed);
         self.failed == 0

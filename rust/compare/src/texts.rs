@@ -8,7 +8,7 @@ use reference::{table, text, Job};
 pub fn compare(tally: &mut Tally, draw: &mut Draw, jobs: &[Job]) {
     let table = draw.text(jobs);
     compare_text(tally, &table);
-    compare_text(tally, &draw.damaged_text(&table));
+    compare_text(tally, &draw.damaged_text(table::HEADER, &table));
     if draw.one_in(16) {
         let long = [table, vec![b'7'; draw.range(900, 4_000) as usize]].concat();
         compare_text(tally, &long);

@@ -21,7 +21,7 @@ pub fn compare(tally: &mut Tally, draw: &mut Draw, kind: Kind, jobs: &[reference
     tally.same("Set::run", &jobs, set.run(&set.times(|j| j.most + 1)), Err(Refused(8)));
 }
 
-fn job(j: &reference::Job) -> Job {
+pub fn job(j: &reference::Job) -> Job {
     let [chain, job, release, priority, least, most, deadline] = j.numbers();
     Job { chain, job, release, priority, least, most, deadline }
 }

@@ -1,6 +1,6 @@
 //! The part's functions over slices. Each reads and writes within the slices that it is handed, which is why the calls are sound.
 
-use super::{Answer, Side};
+use super::{Answer, Pair, Side};
 use cudlomer::ffi;
 
 fn answer(value: i64) -> Answer {
@@ -32,10 +32,11 @@ fn on_text(function: OnText, text: &[u8], out: &mut [u8]) -> Answer {
     answer(unsafe { function(text.as_ptr(), text.len(), out.as_mut_ptr(), out.len()) })
 }
 
-fn set_compare(jobs: &[u64], first: &[u8], second: &[u8], out: &mut [u64]) -> Answer {
-    let ((one, one_length), (other, other_length)) = ((first.as_ptr(), first.len()), (second.as_ptr(), second.len()));
+fn set_compare(jobs: &[u64], texts: Pair, out: &mut [u64]) -> Answer {
+    let [(first, first_length), (second, second_length)] = texts.map(|text| (text.as_ptr(), text.len()));
+    let (lent, room) = (out.as_mut_ptr(), out.len());
     // It reads within the first three slices and writes within the fourth.
-    answer(unsafe { ffi::cudlomer_set_compare(jobs.as_ptr(), jobs.len(), one, one_length, other, other_length, out.as_mut_ptr(), out.len()) })
+    answer(unsafe { ffi::cudlomer_set_compare(jobs.as_ptr(), jobs.len(), first, first_length, second, second_length, lent, room) })
 }
 
 pub const PART: Side = Side {

@@ -1,6 +1,6 @@
 //! What each function has to answer and to leave in lent memory, by the plain reference.
 
-use super::{completion_place, work_place, Answer, Side, STATE};
+use super::{completion_place, work_place, Answer, Pair, Side, STATE};
 use reference::machine::{self, State, Ticked};
 use reference::{blocks, bounds, recording, set, table, text, waveform, Job};
 
@@ -88,7 +88,7 @@ fn set_trace(numbers: &[u64], times: &[u64], out: &mut [u64]) -> Answer {
     put(&rows, out).map(|numbers| numbers / 4)
 }
 
-fn set_compare(numbers: &[u64], first: &[u8], second: &[u8], out: &mut [u64]) -> Answer {
+fn set_compare(numbers: &[u64], [first, second]: Pair, out: &mut [u64]) -> Answer {
     let compared = recording::compare(&jobs_of(numbers), first, second)?;
     let (differ, tick) = (compared.difference.is_some(), compared.difference.unwrap_or(0));
     put(&[compared.first_legal.into(), compared.second_legal.into(), differ.into(), tick], out)
