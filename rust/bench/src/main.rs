@@ -1,7 +1,8 @@
 //! Times the proved part and the plain reference in one run, on the same tables.
 
 use cudlomer::{Algorithm, Set, State, Ticked};
-use reference::{blocks, machine, set, table, text, Job};
+use reference::machine::Span;
+use reference::{blocks, machine, recording, set, table, text, Job};
 use std::cmp::Reverse;
 use std::hint::black_box;
 use std::time::Instant;
@@ -216,6 +217,40 @@ fn print_blocks(jobs: u64, chains: u64, times: &[f64]) {
     println!("{itr:8.0} {:5.2}", itr / plain_itr);
 }
 
+/// Equals of as many ticks as make the most rows of a recording, where each row is one tick.
+fn equals_load(jobs: u64, chains: u64) -> Vec<Job> {
+    let most = recording::MAX_ROWS as u64 / jobs;
+    load(jobs, chains).into_iter().map(|j| Job { release: 0, priority: 1, least: most, most, ..j }).collect()
+}
+
+/// The rows of a run in which such jobs take turns, chain by chain and tick by tick.
+fn by_turns(jobs: &[Job], chains: u64) -> Vec<Span> {
+    let rows = recording::MAX_ROWS as u64;
+    let job_at = |tick: u64| 1 + tick / chains / jobs[0].most;
+    (0..rows).map(|tick| Span { chain: 1 + tick % chains, job: job_at(tick), from: tick, to: tick + 1 }).collect()
+}
+
+/// What is timed of the comparison of two recordings with the most rows, both legal, in which the last two jobs go in either order: that, and one of
+/// the plain reference, which goes from tick to tick.
+fn recordings_times(jobs: u64, chains: u64) -> Vec<f64> {
+    let jobs = equals_load(jobs, chains);
+    let held = Set::read(&table_text(&jobs)).unwrap();
+    let rows = by_turns(&jobs, chains);
+    let mut exchanged = rows.clone();
+    let [.., one, other] = &mut exchanged[..] else { unreachable!() };
+    (one.chain, other.chain) = (other.chain, one.chain);
+    let [first, second] = [rows, exchanged].map(|rows| text::rows_text(&rows).into_bytes());
+    let compared = held.compare(&first, &second).unwrap();
+    assert!(compared.first_legal && compared.second_legal && compared.difference == Some(recording::MAX_ROWS as u64 - 2));
+    let called = time(|| {
+        black_box(held.compare(black_box(&first), black_box(&second)).unwrap());
+    });
+    let plain = time(|| {
+        black_box(recording::compare(black_box(&jobs), black_box(&first), black_box(&second)).unwrap());
+    });
+    vec![called, plain]
+}
+
 /// The least of each time over some passes, since a machine that others use is slow for seconds on end.
 fn least(measure: impl Fn(u64, u64) -> Vec<f64>, loads: &[(u64, u64)]) -> Vec<Vec<f64>> {
     let mut best: Vec<Vec<f64>> = vec![];
@@ -261,5 +296,10 @@ fn main() {
     println!("  ns: blocks by a call, which checks the set: ERT, ratio | CJA, ratio | ITR, ratio");
     for (&(jobs, chains), times) in LOADS.iter().zip(&least(blocks_times, &LOADS)) {
         print_blocks(jobs, chains, times);
+    }
+    println!("  us: two recordings of {} rows compared: the part, the plain reference tick by tick, ratio", recording::MAX_ROWS);
+    let loads = [(8, 8), (64, 16)];
+    for ((jobs, chains), times) in loads.iter().zip(&least(recordings_times, &loads)) {
+        println!("{jobs:2} jobs, {chains} chains: {:6.1} {:6.1} {:5.2}", times[0] / 1_000.0, times[1] / 1_000.0, times[0] / times[1]);
     }
 }
