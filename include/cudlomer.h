@@ -9,8 +9,9 @@
  * in C to call, the same on structs (cudlomer_jobs_...), whose counts are those of array elements.
  *
  * Every function takes anything, and never reads or writes outside the ranges that it is handed. A pointer may be anything where its length is 0.
- * The ranges must not overlap. No function keeps a pointer, allocates memory or has state, so that any number of threads may call them. Of the C
- * library they use memcpy and memset. They take less than 32 KB of stack, and admission less than 56 KB, which is measured, not proved.
+ * A range that is written must not overlap another. No function keeps a pointer, allocates memory or has state, so that any number of threads may
+ * call them. Of the C library they use memcpy and memset. They take less than 32 KB of stack, and admission less than 56 KB, which is measured,
+ * not proved.
  *
  * An answer below 0 is the number of a refusal, negated, and the first refusal in the order that a function names decides. A refused call has
  * written nothing. Where nothing is refused, what a buffer holds behind the last byte or number written stays.

@@ -11,12 +11,12 @@
 
 enum { PAGE = 4096, ROOM = 5 * PAGE, FILL = 0xa5 };
 enum place { ON_THE_HEAP, AFTER_A_WALL, BEFORE_A_WALL, PLACES };
-enum role { FIRST, SECOND, BUFFER, ROLES };
+enum role { FIRST, SECOND, THIRD, BUFFER, ROLES };
 
-/* The one or two ranges that a call only reads. */
+/* The one to three ranges that a call only reads. */
 struct ranges {
-    const void *first, *second;
-    size_t first_size, second_size;
+    const void *first, *second, *third;
+    size_t first_size, second_size, third_size;
 };
 
 /* A function on such ranges and a buffer of so many bytes. */
@@ -78,10 +78,12 @@ static void check_size(const char *what, call *function, struct ranges read, siz
 {
     int64_t wanted = (answer >= 0 || answer == -11) && size < exact ? -9 : answer;
     void *first = lend(FIRST, read.first, read.first_size), *second = lend(SECOND, read.second, read.second_size);
-    void *out = lend(BUFFER, before, size);
-    int good = function((struct ranges){ first, second, read.first_size, read.second_size }, out, size) == wanted;
+    void *third = lend(THIRD, read.third, read.third_size), *out = lend(BUFFER, before, size);
+    struct ranges lent = { first, second, third, read.first_size, read.second_size, read.third_size };
+    int good = function(lent, out, size) == wanted;
     good &= returned(first, read.first, read.first_size);
     good &= returned(second, read.second, read.second_size);
+    good &= returned(third, read.third, read.third_size);
     good &= returned(out, wanted < 0 ? before : after, size);
     count(good, what);
 }

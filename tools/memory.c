@@ -1,8 +1,10 @@
-/* Calls the functions on drawn and damaged tables and sets, with lent memory at the edges of its blocks. The library is not built with the
- * sanitizers, which watch this program only: a byte that the library reads or writes outside is caught by the page, and on the heap by valgrind. */
+/* Calls the functions on drawn and damaged tables, sets and recordings, with lent memory at the edges of its blocks. The library is not built with
+ * the sanitizers, which watch this program only: a byte that the library reads or writes outside is caught by the page, and on the heap by
+ * valgrind. */
 #include "cudlomer.h"
 #include "draw.h"
 #include "lend.h"
+#include "memory_recordings.h"
 #include "memory_sets.h"
 #include "memory_texts.h"
 
@@ -16,6 +18,7 @@ static void check_nothing(void)
     count(cudlomer_set_rounds(NULL, 0) == -7 && cudlomer_set_admit(NULL, 0, 0, NULL, 0, 3) == -7, "rounds of no set, and no chain");
     count(cudlomer_set_tick(NULL, 0, NULL, 0, NULL, 0) == -7 && cudlomer_set_run(NULL, 0, NULL, 0, NULL, 0) == -7, "a run of no set");
     count(cudlomer_set_trace(NULL, 0, NULL, 0, NULL, 0) == -7 && cudlomer_set_waveform(NULL, 0, NULL, 0, NULL, 0) == -7, "a trace of no set");
+    count(cudlomer_set_compare(NULL, 0, NULL, 0, NULL, 0, NULL, 0) == -7, "recordings of no set");
 }
 
 int main(int argc, char **argv)
@@ -25,6 +28,8 @@ int main(int argc, char **argv)
     int tables = argc > 1 ? atoi(argv[1]) : KINDS;
     make_rooms();
     check_nothing();
+    for (place = ON_THE_HEAP; place < PLACES; place++)
+        check_many_rows();
     for (int n = 0; n < tables; n++) {
         size_t jobs_count = draw_jobs(&kinds[n % KINDS], jobs), end = write_table(jobs, jobs_count, table);
         place = (enum place)(n / KINDS % PLACES);

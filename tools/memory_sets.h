@@ -5,8 +5,9 @@
 #include "cudlomer.h"
 #include "draw.h"
 #include "lend.h"
+#include "memory_recordings.h"
 
-enum { WORD = sizeof(uint64_t), MOST_TICKS = 10, LONGEST_WORK = 5000 };
+enum { MOST_TICKS = 10, LONGEST_WORK = 5000 };
 
 static uint64_t algorithm, held;
 
@@ -53,7 +54,7 @@ static int64_t set_waveform(struct ranges timed, void *out, size_t size)
 /* The text, the bounds, the blocks, and the verdict and the rounds, which write nothing. */
 static void check_figures(const uint64_t *numbers, size_t length)
 {
-    struct ranges set = { numbers, NULL, length * WORD, 0 };
+    struct ranges set = { .first = numbers, .first_size = length * WORD };
     int64_t bytes = call_with_room(set_write, set);
     check_sizes("set_write", set_write, set, 1, bytes < 0 ? 40 : (size_t)bytes, bytes);
     for (algorithm = 0; algorithm <= 4; algorithm++) {
@@ -72,7 +73,7 @@ static void check_figures(const uint64_t *numbers, size_t length)
 /* A chain for the jobs at the start of a set, with room for these alone, and from two numbers too few to two too many. */
 static void check_admission(const uint64_t *numbers, size_t length, const uint64_t *chain, size_t chain_length)
 {
-    struct ranges further = { chain, NULL, chain_length * WORD, 0 };
+    struct ranges further = { .first = chain, .first_size = chain_length * WORD };
     size_t exact = (length + chain_length) * WORD;
     held = length / CUDLOMER_NUMBERS(cudlomer_job, 1);
     memcpy(before, numbers, length * WORD);
@@ -145,8 +146,9 @@ static void check_machine(const uint64_t *numbers, size_t length, const struct c
     struct cudlomer_state start = { 0 };
     for (size_t i = 0; i < jobs_count; i++)
         times[i] = draw(jobs[i].least, jobs[i].most);
-    struct ranges timed = { numbers, times, length * WORD, jobs_count * WORD };
+    struct ranges timed = { .first = numbers, .second = times, .first_size = length * WORD, .second_size = jobs_count * WORD };
     check_run(timed);
+    check_recordings(numbers, length, jobs, jobs_count, times);
     check_state(timed, start, jobs_count);
     check_state(timed, last_state(times, jobs_count), jobs_count);
     timed.second_size = damage_numbers(times, jobs_count) * WORD;

@@ -56,7 +56,7 @@ static void check_numbers(const char *table, size_t length, int64_t answer)
 
 static void check_text(const char *table, size_t length)
 {
-    struct ranges text = { table, NULL, length, 0 };
+    struct ranges text = { .first = table, .first_size = length };
     memset(before, FILL, ROOM);
     int64_t answer = check_writer("bounds", text_bounds, text);
     after[answer < 0 ? 0 : answer] = 0;

@@ -7,12 +7,13 @@
 
 enum { STACK = 128 * 1024, LIMIT = 32 * 1024, ADMISSION_LIMIT = 56 * 1024, FILL = 0xa5 };
 
-static uint8_t text[CUDLOMER_MAX_TEXT + 1], out[CUDLOMER_MAX_WAVEFORM], stack[STACK];
+static uint8_t text[CUDLOMER_MAX_TEXT + 1], out[CUDLOMER_MAX_WAVEFORM], recording[CUDLOMER_MAX_TEXT], stack[STACK];
 static struct cudlomer_job jobs[CUDLOMER_MAX_JOBS], held[CUDLOMER_MAX_JOBS];
 static struct cudlomer_row rows[CUDLOMER_MAX_ROWS];
+static struct cudlomer_comparison comparison;
 static struct cudlomer_state state;
 static uint64_t times[CUDLOMER_MAX_JOBS], figures[CUDLOMER_MAX_JOBS], blocks[CUDLOMER_MAX_BLOCKS];
-static size_t length, count, held_count;
+static size_t length, count, held_count, recording_length;
 static int64_t answer;
 static ucontext_t here, there;
 
@@ -37,15 +38,19 @@ static void set_tick(void) { answer = cudlomer_jobs_tick(jobs, count, times, cou
 static void set_run(void) { answer = cudlomer_jobs_run(jobs, count, times, count, figures, CUDLOMER_MAX_JOBS); }
 static void set_trace(void) { answer = cudlomer_jobs_trace(jobs, count, times, count, rows, CUDLOMER_MAX_ROWS); }
 static void set_waveform(void) { answer = cudlomer_jobs_waveform(jobs, count, times, count, out, sizeof out); }
+static void set_compare(void) /* of the run's trace text beside itself */
+{
+    answer = cudlomer_jobs_compare(jobs, count, recording, recording_length, recording, recording_length, &comparison);
+}
 
 static const struct function {
     const char *name;
     void (*call)(void);
 } functions[] = {
-    { "bounds", bounds },           { "trace", trace },           { "verdict", verdict },         { "rounds", rounds },
-    { "set_read", set_read },       { "set_write", set_write },   { "set_bounds", set_bounds },   { "set_blocks", set_blocks },
-    { "set_verdict", set_verdict }, { "set_rounds", set_rounds }, { "set_admit", set_admit },     { "set_tick", set_tick },
-    { "set_run", set_run },         { "set_trace", set_trace },   { "set_waveform", set_waveform },
+    { "bounds", bounds },           { "trace", trace },           { "verdict", verdict },           { "rounds", rounds },
+    { "set_read", set_read },       { "set_write", set_write },   { "set_bounds", set_bounds },     { "set_blocks", set_blocks },
+    { "set_verdict", set_verdict }, { "set_rounds", set_rounds }, { "set_admit", set_admit },       { "set_tick", set_tick },
+    { "set_run", set_run },         { "set_trace", set_trace },   { "set_waveform", set_waveform }, { "set_compare", set_compare },
 };
 
 enum { FUNCTIONS = sizeof functions / sizeof functions[0] };
@@ -66,9 +71,11 @@ static size_t taken(void (*call)(void))
     return sizeof stack - left;
 }
 
-/* The set of the text, all but its last chain as the one held, and each job's most time. */
+/* The set of the text, all but its last chain as the one held, each job's most time, and the recording of the run with these. */
 static void read_set(void)
 {
+    answer = cudlomer_trace(text, length, recording, sizeof recording);
+    recording_length = answer < 0 ? 0 : (size_t)answer;
     set_read();
     count = answer < 0 ? 0 : (size_t)answer;
     for (size_t i = 0; i < count; i++) {

@@ -1,5 +1,5 @@
 //! The functions as `cudlomer.h` declares them, for a caller that lends plain numbers. Each takes anything, and reads and writes only within the
-//! ranges that it is handed, which must not overlap.
+//! ranges that it is handed, of which one that is written must not overlap another.
 
 extern "C" {
     pub fn cudlomer_bounds(text: *const u8, text_length: usize, out: *mut u8, out_length: usize) -> i64;
