@@ -30,8 +30,33 @@ const JOB: Job = Job { chain: 1, job: 1, release: 0, priority: 1, least: 1, most
 /// What may stand behind the last row.
 const BEHIND: [&str; 6] = ["\r\n", "\r", "\n", "a", ",,,\r\n", "1,1,256,257"];
 
+/// Lines of which the first alone is a row of that job.
+const LINES: [&str; 20] = [
+    "1,1,0,1",
+    "1,1,0,10000000000",
+    "1,1,0,18446744073709551617",
+    "1,1,0,01",
+    "1,1,00,1",
+    "01,1,0,1",
+    "1,1,0,",
+    "1,1,,1",
+    "1,1,0",
+    "1,1,0,1,",
+    "1,1,0,1,1",
+    ",1,1,0,1",
+    " 1,1,0,1",
+    "1,1,0,+1",
+    "1,1,0,1\n",
+    "1,2,0,1",
+    "0,1,0,1",
+    "1,0,0,1",
+    "4294967297,1,0,1",
+    "1,4294967297,0,1",
+];
+
 pub fn compare(tally: &mut Tally, draw: &mut Draw) {
     compare_late(tally);
+    compare_lines(tally);
     for _ in 0..SHORT_SETS {
         compare_short(tally, &draw.few_jobs(3, 2, 2));
     }
@@ -165,6 +190,17 @@ fn count(tally: &mut Tally, jobs: &[Job], read: &[Result<Vec<Span>, u8>; 2]) {
     tally.case("illegal recordings that do not differ", legal == [false, false] && !differ);
     tally.case("first recording legal alone", legal == [true, false]);
     tally.case("second recording legal alone", legal == [false, true]);
+}
+
+/// Each of those lines as the only row, beside each other.
+fn compare_lines(tally: &mut Tally) {
+    let numbers = numbers_of(&[JOB]);
+    let recordings = LINES.map(|line| [recording::HEADER, "\r\n", line, "\r\n"].concat().into_bytes());
+    for first in &recordings {
+        for second in &recordings {
+            compare_pair(tally, &numbers, first, second);
+        }
+    }
 }
 
 /// Times of ten digits, of a job that is released last of all and of one that is released at 0. What is wanted was worked out by hand.
