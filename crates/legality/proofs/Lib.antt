@@ -8,3 +8,4 @@ pub mod Differences
 pub mod TracedRows
 pub mod OwnTrace
 pub mod Claims
+pub mod Judging

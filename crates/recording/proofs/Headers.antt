@@ -8,6 +8,7 @@ use Rattle.decimal.proofs.Absence.{lacks}
 use Rattle.jobs.specs.declared.job.Job.{Job}
 use Rattle.jobs.specs.declared.refusal.Refusal.{Refusal}
 use Rattle.jobs.specs.declared.refusal.Refusal.the-variants.{MalformedRecording}
+use Rattle.jobs.specs.declared.refusal.Check.{Check}
 use Rattle.jobs.specs.declared.refusal.Check.the-variants.{Passed, Refused}
 use Rattle.jobs.specs.Checks.{checkOf}
 use Rattle.table.specs.declared.line.End.the-variants.{Here, Elsewhere}
@@ -34,3 +35,12 @@ module _ (js : List Job) (text : List ℕ) where
     under-header n e =
         let h = under-here header (omega arith) refl (rowsFrom js []) (refusedWith MalformedRecording) text n e in
         (h .0, h .1 ∙ recording-by)
+
+-- ---- a recording that passes is one of an accepted set
+by-check : (js : List Job) (text : List ℕ) (check : Check) → checkOf js ≡ check → recordingOf js text .check ≡ Passed → check ≡ Passed
+unfolding recordingOf
+by-check js text Passed e p = refl
+by-check js text (Refused x) e p = let z : _≡_ {A = ℕ} 0 1 = cc (rw e at p) in absurd (omega arith)
+
+pub set-passed : (js : List Job) (text : List ℕ) → recordingOf js text .check ≡ Passed → checkOf js ≡ Passed
+set-passed js text p = by-check js text (checkOf js) refl p

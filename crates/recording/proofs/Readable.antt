@@ -13,7 +13,7 @@ use lib.Seq.{getD-append-add}
 use borrow.Author.Tests.{ltb-true, ne-eqb}
 use Rattle.laws.specs.Words.{lastOf}
 use Rattle.laws.proofs.Tests.{by-last, and-parts}
-use Rattle.laws.proofs.Lists.{length-padded, getD-padded}
+use Rattle.laws.proofs.Lists.{getD-padded}
 use Rattle.jobs.specs.declared.job.Job.{Job}
 use Rattle.jobs.specs.declared.refusal.Refusal.{Refusal}
 use Rattle.jobs.specs.declared.refusal.Refusal.the-variants.{MalformedRecording}
@@ -35,7 +35,6 @@ pub record Fine (n : ℕ) (rows : List Row) : Type 0 where
 
 pub record Readable (n : ℕ) (recording : Recording) : Type 0 where
   pub few : recording .count ≤ maxRows
-  pub full : length (recording .rows) ≡ maxRows
   pub order : inOrder (rowsOf recording) ≡ true
   pub inside : (i : ℕ) → i < recording .count → getD (recording .rows) i noRow .at < n
 
@@ -124,7 +123,6 @@ module _ (js : List Job) where
       readable rows f =
           record {
             few = f .few;
-            full = length-padded maxRows noRow rows (f .few);
             order = rw (rows-with Passed rows) (f .order);
             inside = λ i l. rw (getD-padded maxRows noRow rows i) (f .inside i l);
           }
