@@ -4,3 +4,4 @@ pub mod Blocking
 pub mod Admitting
 pub mod Ticking
 pub mod Running
+pub mod Comparing

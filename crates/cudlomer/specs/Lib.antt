@@ -1,3 +1,4 @@
 pub mod Codes
 pub mod Tables
 pub mod Sets
+pub mod Recordings

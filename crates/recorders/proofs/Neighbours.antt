@@ -14,7 +14,7 @@ use Rattle.jobs.specs.Jobs.{jobAt, urgencyOf}
 use Rattle.theory.proofs.Columns.{figure, put, column}
 use Rattle.theory.proofs.Prior.{prior, prior-none, prior-next}
 use Rattle.theory.proofs.Predecessors.{notBefore}
-use Rattle.legality.proofs.Judging.{readyIn, jobFitsIn, fitsIn, waitingIn}
+use Rattle.legality.proofs.Judging.{columnCount, readyIn, jobFitsIn, fitsIn, waitingIn}
 
 module _ (js : List Job) (course : List (List ℕ)) where
   abbrev chainAt : ℕ → ℕ
@@ -50,7 +50,7 @@ module _ (js : List Job) (course : List (List ℕ)) where
   abbrev pub waiting : ℕ → List (List ℕ)
   waiting n = column n (readyIn js course) ∷ column n urgencyAt ∷ column n (figure course 2) ∷ []
 
-  pub waiting-none : replicate 3 (replicate maxJobs 0) ≡ waiting 0
+  pub waiting-none : replicate columnCount (replicate maxJobs 0) ≡ waiting 0
   waiting-none =
       λ x. Filling.filled-none maxJobs 0 (readyIn js course) x ∷ Filling.filled-none maxJobs 0 urgencyAt x ∷ Filling.filled-none maxJobs 0 (figure course 2) x ∷ []
 

@@ -20,7 +20,7 @@ use Rattle.recording.specs.declared.reading.Recording.{Recording}
 use Rattle.recording.specs.Rows.{noRow}
 use Rattle.recording.specs.Reading.{maxRows, rowsOf}
 use Rattle.legality.specs.Procedure.{total, begin, done}
-use Rattle.legality.proofs.Judging.{courseOf}
+use Rattle.legality.proofs.Judging.{columnCount, courseOf}
 use Rattle.legality.proofs.Rows.{Rising}
 use Rattle.recorders.proofs.Courses.{Last, rising-take, rising-last, total-le-end, total-own, begin-own, done-own, total-other, begin-other, done-other}
 
@@ -48,7 +48,7 @@ tabulate-set m f g i x l e other =
     (λ q. getD-set-other (tabulate 0 m f) i k x 0 (λ z. q (sym z)) ∙ tabulate-at m f k inside ∙ sym (tabulate-at m g k inside ∙ other k q)))
 
 -- ---- the course of some rows
-pub course-none : replicate 3 (replicate maxJobs 0) ≡ courseOf []
+pub course-none : replicate columnCount (replicate maxJobs 0) ≡ courseOf []
 unfolding total begin done
 course-none =
     λ x. tabulate-none maxJobs (total []) (λ i. refl) x ∷ tabulate-none maxJobs (begin []) (λ i. refl) x ∷ tabulate-none maxJobs (done []) (λ i. refl) x ∷ []

@@ -4,6 +4,7 @@ ghost use Rattle.jobs.specs.Limits.{maxJobs};
 ghost use Rattle.recording.specs.Reading.{rowsOf};
 ghost use Rattle.recording.proofs.Readable.{Readable};
 ghost use Rattle.legality.proofs.Judging.{courseOf};
+use crate::figures::COLUMNS;
 use crate::figures::Figures;
 use crate::figures::figure;
 use jobs::set::JobSet;
@@ -30,7 +31,7 @@ pub(crate) fn course_of(recording: Recording) -> Figures
     requires { ⌜ Readable maxJobs recording ⌝ }
     ensures { λ r. ⌜ r ≡ courseOf (rowsOf recording) ⌝ }
 {
-    let mut course = [[0u64; JobSet::MAX_JOBS]; 3];
+    let mut course = [[0u64; JobSet::MAX_JOBS]; COLUMNS];
     let count = recording.count;
     let mut n: usize = 0;
     while n < count {

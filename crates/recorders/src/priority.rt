@@ -1,9 +1,9 @@
 // What is asked of the rows of a recording: in no gap does a job wait, and in no row one that is more urgent.
-ghost use Rattle.laws.specs.Words.{_≡_, _<_, _≤_};
+ghost use Rattle.laws.specs.Words.{_≡_, _<_, _≤_, cond};
 ghost use Rattle.jobs.specs.Limits.{maxJobs};
 ghost use Rattle.recording.specs.Reading.{rowsOf};
 ghost use Rattle.recording.proofs.Readable.{Readable};
-ghost use Rattle.legality.proofs.Judging.{meeting, heldUp, rowFitsIn, rowsFitIn};
+ghost use Rattle.legality.proofs.Judging.{Following, meeting, heldUp, rowFitsIn, rowsFitIn};
 use crate::course::DONE;
 use crate::figures::Figures;
 use crate::figures::figure;
@@ -19,22 +19,31 @@ fn meets(from: u64, to: u64, ready: u64, done: u64) -> bool
     (from < to) & (from < done) & (ready < to) & (ready < done)
 }
 
+// The time up to which a row and the gap before it may not hold up a job: the row's end for one of higher priority, its begin for any other.
+fn limit_for(row: Row, higher: bool) -> u64
+    ensures { λ r. ⌜ r ≡ cond higher (row .to) (row .from) ⌝ }
+{
+    if higher {
+        return row.to;
+    }
+    row.from
+}
+
 // Whether job v waits in the gap, which goes from `gap` to the row, or waits while the row lasts and is more urgent than the row's job.
 fn is_held_up<'a>(gap: u64, row: Row, v: usize, waiting: &'a Figures) -> bool
-    requires { ⌜ (row .at < maxJobs) × (v < maxJobs) ⌝ }
+    requires { ⌜ (v < maxJobs) × Following gap row ⌝ }
     ensures { λ r. ⌜ r ≡ heldUp (now (waiting .entry)) gap row v ⌝ }
 {
+    let higher = figure(waiting, URGENCY, row.at) < figure(waiting, URGENCY, v);
+    let limit = limit_for(row, higher);
     let ready = figure(waiting, READY, v);
     let done = figure(waiting, DONE, v);
-    let in_gap = meets(gap, row.from, ready, done);
-    let in_row = meets(row.from, row.to, ready, done);
-    let higher = figure(waiting, URGENCY, row.at) < figure(waiting, URGENCY, v);
-    in_gap | (in_row & higher)
+    meets(gap, limit, ready, done)
 }
 
 // Whether a row and the gap before it hold up none of the first count jobs.
 fn row_fits<'a>(gap: u64, row: Row, count: usize, waiting: &'a Figures) -> bool
-    requires { ⌜ (row .at < maxJobs) × (count ≤ maxJobs) ⌝ }
+    requires { ⌜ (count ≤ maxJobs) × Following gap row ⌝ }
     ensures { λ r. ⌜ r ≡ rowFitsIn (now (waiting .entry)) count gap row ⌝ }
 {
     let mut v: usize = 0;

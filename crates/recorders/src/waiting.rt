@@ -3,6 +3,7 @@ ghost use Rattle.laws.specs.Words.{_≡_, _≤_};
 ghost use Rattle.jobs.specs.{Limits.maxJobs, Jobs.jobsOf};
 ghost use Rattle.legality.proofs.Judging.{waitingIn};
 use crate::course::DONE;
+use crate::figures::COLUMNS;
 use crate::figures::Figures;
 use crate::figures::figure;
 use crate::fitting::ready_after;
@@ -18,7 +19,7 @@ pub(crate) fn waiting_of<'a>(set: JobSet, course: &'a Figures) -> Figures
     requires { ⌜ set .count ≤ maxJobs ⌝ }
     ensures { λ r. ⌜ r ≡ waitingIn (jobsOf set) (now (course .entry)) ⌝ }
 {
-    let mut waiting = [[0u64; JobSet::MAX_JOBS]; 3];
+    let mut waiting = [[0u64; JobSet::MAX_JOBS]; COLUMNS];
     let count = set.count;
     let mut chain: u64 = 0;
     let mut done: u64 = 0;

@@ -70,6 +70,10 @@ module _ (c : tie.In-loop Inv-loop μ-loop) where
   begin-read : (x : ℕ) → x ≡ figure (c .before .loop .course) 1 (row .at) → x ≡ begin (take n rows) (row .at)
   begin-read x e = e ∙ ap (λ (q : List (List ℕ)). figure q 1 (row .at)) (c .before .loop .inv .1) ∙ tabulate-at maxJobs (begin (take n rows)) (row .at) inside
 
+-- the turn of the loop in which the row and its job's figures have been read
+abbrev turn : tie.After-struct-known Inv-loop μ-loop → tie.In-loop Inv-loop μ-loop
+turn c = c .before .before .before .before .before .before
+
 loop-holds : tie.Need-loop-holds Inv-loop μ-loop
 loop-holds c = (omega arith, course-none)
 
@@ -86,40 +90,40 @@ figure-requires-2 : tie.Need-figure-requires-2 Inv-loop μ-loop
 figure-requires-2 c κs = search (needs, inside (c .before .before .before .before))
 
 sub-course : tie.Need-sub-course Inv-loop μ-loop
-sub-course c = search (needs, last (c .before .before .before .before .before .before) .lasts)
+sub-course c = search (needs, last (turn c) .lasts)
 
 add-course : tie.Need-add-course Inv-loop μ-loop
-add-course c = omega (arith, fits (c .before .before .before .before .before .before), total-read (c .before .before .before .before .before .before) _ (c .before .before .before .figure .ensures))
+add-course c = omega (arith, fits (turn c), total-read (turn c) _ (c .before .before .before .figure .ensures))
 
 mul-course : tie.Need-mul-course Inv-loop μ-loop
-mul-course c = search (needs, inside (c .before .before .before .before .before .before))
+mul-course c = search (needs, inside (turn c))
 
 index-1-course : tie.Need-index-1-course Inv-loop μ-loop
 index-1-course c = search needs
 
 index-2-course : tie.Need-index-2-course Inv-loop μ-loop
-index-2-course c = search (needs, inside (c .before .before .before .before .before .before))
+index-2-course c = search (needs, inside (turn c))
 
 begin-after-requires : tie.Need-begin-after-requires Inv-loop μ-loop
 begin-after-requires c κs = search needs
 
 mul-course-2 : tie.Need-mul-course-2 Inv-loop μ-loop
-mul-course-2 c = search (needs, inside (c .before .before .before .before .before .before .before))
+mul-course-2 c = search (needs, inside (turn (c .before)))
 
 index-1-course-2 : tie.Need-index-1-course-2 Inv-loop μ-loop
 index-1-course-2 c = search needs
 
 index-2-course-2 : tie.Need-index-2-course-2 Inv-loop μ-loop
-index-2-course-2 c = search (needs, inside (c .before .before .before .before .before .before .before))
+index-2-course-2 c = search (needs, inside (turn (c .before)))
 
 mul-course-3 : tie.Need-mul-course-3 Inv-loop μ-loop
-mul-course-3 c = search (needs, inside (c .before .before .before .before .before .before .before))
+mul-course-3 c = search (needs, inside (turn (c .before)))
 
 index-1-course-3 : tie.Need-index-1-course-3 Inv-loop μ-loop
 index-1-course-3 c = search needs
 
 index-2-course-3 : tie.Need-index-2-course-3 Inv-loop μ-loop
-index-2-course-3 c = search (needs, inside (c .before .before .before .before .before .before .before))
+index-2-course-3 c = search (needs, inside (turn (c .before)))
 
 add-n : tie.Need-add-n Inv-loop μ-loop
 add-n c = search needs
@@ -129,10 +133,13 @@ loop-less c = search needs
 
 loop-again : tie.Need-loop-again Inv-loop μ-loop
 loop-again c =
-    let turn = c .before .before .before .before .before .before .before in
-    let work = total-read turn _ (c .before .before .before .before .figure .ensures) in
-    let first = c .begin-after .ensures ∙ ap (λ (x : ℕ). cond (eqb (c .before .before .before .before .figure .result) 0) (row turn .from) x) (begin-read turn _ (c .before .before .figure2 .ensures)) in
-    (omega (arith, turn .loop-test .taken), course-next (rows turn) (rising turn) (n turn) (here turn) (row turn) (is-row turn) _ (turn .before .loop .inv .1) (inside turn) _ _ work first)
+    let read = c .before in
+    let at = turn read in
+    let work = total-read at _ (read .before .before .before .figure .ensures) in
+    let began = begin-read at _ (read .before .figure2 .ensures) in
+    let first = c .begin-after .ensures ∙ ap (λ (x : ℕ). cond (eqb (read .before .before .before .figure .result) 0) (row at .from) x) began in
+    let next = course-next (rows at) (rising at) (n at) (here at) (row at) (is-row at) _ (at .before .loop .inv .1) (inside at) _ _ work first in
+    (omega (arith, at .loop-test .taken), next)
 
 returns : tie.Need-returns Inv-loop μ-loop
 returns c =

@@ -4,10 +4,11 @@ use Prim.Native.Nat.{ℕ, _-_, _≤_, _<_}
 use mathlib.Core.Path.{_≡_, refl, sym, ap, _∙_}
 use mathlib.Core.List.{List}
 use native.Mathlib.Omega.{arith}
-use lib.ListN.{length}
+use lib.ListN.{length, getD}
 use borrow.Author.Needs.{needs}
 use Rattle.laws.proofs.Lists.{mapped-length}
 use Rattle.recording.specs.declared.row.Row.{Row}
+use Rattle.recording.specs.Rows.{noRow}
 use Rattle.recording.specs.Reading.{maxRows, rowsOf}
 use Rattle.recorders.specs.Comparing.{differenceAt}
 use Rattle.recorders.specs.declared.difference.Difference.{Difference}
@@ -62,6 +63,12 @@ module _ (c : tie.In-loop Inv-loop μ-loop) where
   here-second : n < length (second start)
   here-second = omega (arith, in-second, length-second start)
 
+  is-first : getD (start .args .t1 .rows) n noRow ≡ getD (first start) n noRow
+  is-first = row-at (start .args .t1) n in-first
+
+  is-second : getD (start .args .t2 .rows) n noRow ≡ getD (second start) n noRow
+  is-second = row-at (start .args .t2) n in-second
+
 fewer-requires : tie.Need-fewer-requires Inv-loop μ-loop
 fewer-requires c κs = search needs
 
@@ -87,7 +94,7 @@ returns : tie.Need-returns Inv-loop μ-loop
 returns c =
     let turn = c .before .before .before .before in
     let s = start turn in
-    let found = later-found (first s) (second s) (n turn) (here-first turn) (here-second turn) _ _ (row-at (s .args .t1) (n turn) (in-first turn)) (row-at (s .args .t2) (n turn) (in-second turn)) in
+    let found = later-found (first s) (second s) (n turn) (here-first turn) (here-second turn) _ _ (is-first turn) (is-second turn) in
     let here = c .before .row-difference .ensures in
     here ∙ sym (ap differenceAt (turn .before .loop .inv .1 ∙ found (sym (ap (λ (d : Difference). d .found) here) ∙ c .if1 .taken)))
 
@@ -101,7 +108,7 @@ loop-again : tie.Need-loop-again Inv-loop μ-loop
 loop-again c =
     let turn = c .before .before .before .before in
     let s = start turn in
-    let next = later-next (first s) (second s) (n turn) (here-first turn) (here-second turn) _ _ (row-at (s .args .t1) (n turn) (in-first turn)) (row-at (s .args .t2) (n turn) (in-second turn)) in
+    let next = later-next (first s) (second s) (n turn) (here-first turn) (here-second turn) _ _ (is-first turn) (is-second turn) in
     let here = c .before .row-difference .ensures in
     (omega (arith, turn .loop-test .taken), turn .before .loop .inv .1 ∙ next (sym (ap (λ (d : Difference). d .found) here) ∙ c .if1 .left))
 

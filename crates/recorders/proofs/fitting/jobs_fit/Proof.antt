@@ -31,7 +31,9 @@ fits-here c =
     let turn = c .before .before .before in
     let start = turn .before .before in
     let n = turn .before .loop .n in
-    kept-fits (jobsOf (start .args .t1)) (start .args .course .now) (turn .before .loop .inv .2) _ (sym (job-at (start .args .t1) n (turn .loop-test .taken))) _ (c .before .ready-after .ensures) _ (c .job-fits .ensures)
+    let is-job = sym (job-at (start .args .t1) n (turn .loop-test .taken)) in
+    let kept = kept-fits (jobsOf (start .args .t1)) (start .args .course .now) (turn .before .loop .inv .2) in
+    kept _ is-job _ (c .before .ready-after .ensures) _ (c .job-fits .ensures)
 
 loop-holds : tie.Need-loop-holds Inv-loop μ-loop
 loop-holds c = let js = jobsOf (c .args .t1) in (omega arith, every-none (fitsIn js (c .args .course .now)), kept-none js (c .args .course .now))
