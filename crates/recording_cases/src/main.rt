@@ -25,7 +25,11 @@ fn print_argument(i: usize) {
     let second_length = os::arg(i, &mut second);
     print(&name[..name_length]);
     print(b": ");
-    print_kept(&table[..table_length], &first[..first_length], &second[..second_length]);
+    print_kept(
+        &table[..table_length],
+        &first[..first_length],
+        &second[..second_length],
+    );
     print(b"\n");
 }
 
