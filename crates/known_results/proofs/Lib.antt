@@ -1,3 +1,4 @@
 pub mod Known
 pub mod Waveforms
 pub mod Blocks
+pub mod Recordings

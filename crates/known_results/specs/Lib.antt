@@ -1,3 +1,4 @@
 pub mod Cases
 pub mod Waveforms
 pub mod Blocks
+pub mod Recordings
