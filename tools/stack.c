@@ -1,11 +1,11 @@
-/* Runs each function on a stack of its own, filled beforehand, and checks that the table named takes less of it than the header says: 32 KB, and 56 KB
- * for admission, where its last chain joins the others. */
+/* Runs each function on a stack of its own, filled beforehand, and checks that the table named takes less of it than the header says: 32 KB, 56 KB for
+ * admission, where its last chain joins the others, and 64 KB for a comparison. */
 #include "cudlomer.h"
 #include <stdio.h>
 #include <string.h>
 #include <ucontext.h>
 
-enum { STACK = 128 * 1024, LIMIT = 32 * 1024, ADMISSION_LIMIT = 56 * 1024, FILL = 0xa5 };
+enum { STACK = 128 * 1024, LIMIT = 32 * 1024, ADMISSION_LIMIT = 56 * 1024, COMPARISON_LIMIT = 64 * 1024, FILL = 0xa5 };
 
 static uint8_t text[CUDLOMER_MAX_TEXT + 1], out[CUDLOMER_MAX_WAVEFORM], recording[CUDLOMER_MAX_TEXT], stack[STACK];
 static struct cudlomer_job jobs[CUDLOMER_MAX_JOBS], held[CUDLOMER_MAX_JOBS];
@@ -55,6 +55,13 @@ static const struct function {
 
 enum { FUNCTIONS = sizeof functions / sizeof functions[0] };
 
+static size_t limit(void (*call)(void))
+{
+    if (call == set_admit)
+        return ADMISSION_LIMIT;
+    return call == set_compare ? COMPARISON_LIMIT : LIMIT;
+}
+
 /* How many bytes of the stack a call changes. */
 static size_t taken(void (*call)(void))
 {
@@ -97,7 +104,7 @@ int main(int argc, char **argv)
     read_set();
     for (int n = 0; n < FUNCTIONS; n++) {
         size_t bytes = taken(functions[n].call);
-        good += answer >= 0 && bytes < (size_t)(functions[n].call == set_admit ? ADMISSION_LIMIT : LIMIT);
+        good += answer >= 0 && bytes < limit(functions[n].call);
         printf("stack: %s takes %zu bytes\n", functions[n].name, bytes);
     }
     printf("%d passed, %d failed\n", good, FUNCTIONS - good);
