@@ -7,6 +7,7 @@ pub mod First
 pub mod Tabulate
 pub mod Lists
 pub mod Lines
+pub mod Fronts
 pub mod Digits
 pub mod Filling
 pub mod Buffers

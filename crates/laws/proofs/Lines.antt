@@ -21,7 +21,7 @@ pub first-cons : (b c : ℕ) (text : List ℕ) → isBreak b c ≡ false → fir
 unfolding firstLine
 first-cons b c text e = rw e
 
-after-cons : (b c : ℕ) (text : List ℕ) → isBreak b c ≡ false → afterLine (b ∷ c ∷ text) ≡ afterLine (c ∷ text)
+pub after-cons : (b c : ℕ) (text : List ℕ) → isBreak b c ≡ false → afterLine (b ∷ c ∷ text) ≡ afterLine (c ∷ text)
 unfolding afterLine
 after-cons b c text e = rw e
 
