@@ -1,0 +1,3 @@
+// The comparison of two recordings, as a text in a lent buffer.
+mod line;
+pub mod text;
