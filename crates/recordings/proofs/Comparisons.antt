@@ -1,7 +1,7 @@
 -- What the writer answers and leaves: where the table is refused, where a recording is, and where the text is written. Assumes nothing.
+use Prim.Native.Nat.{ℕ}
 use mathlib.Core.List.{List}
 use mathlib.Core.Path.{_≡_, refl, sym, ap, _∙_}
-use Prim.Native.Nat.{ℕ}
 use Rattle.laws.specs.Words.{written}
 use Rattle.jobs.specs.declared.refusal.Refusal.{Refusal}
 use Rattle.jobs.specs.declared.refusal.Check.the-variants.{Passed, Refused}

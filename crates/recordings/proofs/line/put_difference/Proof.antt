@@ -1,10 +1,10 @@
+-- `put_difference` leaves as much of its line as fits. Assumes nothing.
+use native.Mathlib.Omega.{arith}
+use borrow.Author.Needs.{needs}
 use Rattle.laws.specs.Words.{ascii}
 use Rattle.laws.proofs.Clipped.{put-none, put-counted}
 use Rattle.decimal.specs.Digits.{decimal}
 use Rattle.recordings.proofs.Fits.{tick-length}
--- `put_difference` leaves as much of its line as fits. Assumes nothing.
-use native.Mathlib.Omega.{arith}
-use borrow.Author.Needs.{needs}
 use Rattle.recordings.proofs.line.put_difference.Statement.{statement}
 use Rattle.recordings.proofs.line.put_difference.Tie as tie
 

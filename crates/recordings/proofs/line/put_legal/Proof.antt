@@ -1,8 +1,7 @@
+-- `put_legal` leaves as much of its line as fits. Assumes nothing.
+use borrow.Author.Needs.{needs}
 use Rattle.laws.specs.Words.{ascii}
 use Rattle.laws.proofs.Clipped.{put-none, put-counted}
--- `put_legal` leaves as much of its line as fits. Assumes nothing.
-use native.Mathlib.Omega.{arith}
-use borrow.Author.Needs.{needs}
 use Rattle.recordings.proofs.line.put_legal.Statement.{statement}
 use Rattle.recordings.proofs.line.put_legal.Tie as tie
 

@@ -1,16 +1,17 @@
+-- `put_text` leaves as much of the text as fits. Assumes nothing.
 use Prim.Native.Nat.{ℕ, _+_, _≤_}
 use mathlib.Core.List.{List, _++_}
+use native.Mathlib.Omega.{arith}
 use lib.ListN.{length, length-append}
+use borrow.Author.Needs.{needs}
 use Rattle.laws.specs.Words.{ascii}
 use Rattle.laws.proofs.Clipped.{put-then}
 use Rattle.recordings.specs.Texts.{legalLine, differenceLine, comparedText, maxComparedText}
 use Rattle.recordings.proofs.Fits.{compared-fits}
--- `put_text` leaves as much of the text as fits. Assumes nothing.
-use native.Mathlib.Omega.{arith}
-use borrow.Author.Needs.{needs}
 use Rattle.recordings.proofs.text.put_text.Statement.{statement}
 use Rattle.recordings.proofs.text.put_text.Tie as tie
 
+-- the lines
 abbrev first : tie.Start → List ℕ
 first s = legalLine (ascii "first") (s .args .compared .first)
 

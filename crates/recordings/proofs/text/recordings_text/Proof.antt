@@ -1,7 +1,6 @@
-use Rattle.recordings.proofs.Comparisons.{table-refused, recording-refused, text-written}
 -- `recordings_text` answers `comparisonAnswer`, and leaves `comparisonLeft`. Assumes nothing.
-use native.Mathlib.Omega.{arith}
 use borrow.Author.Needs.{needs}
+use Rattle.recordings.proofs.Comparisons.{table-refused, recording-refused, text-written}
 use Rattle.recordings.proofs.text.recordings_text.Statement.{statement}
 use Rattle.recordings.proofs.text.recordings_text.Tie as tie
 

@@ -1,20 +1,21 @@
+-- `write_compared` answers and leaves what its text does in the buffer. Assumes nothing.
 use Prim.Native.Nat.{ℕ, _≤_, _<_}
 use mathlib.Core.List.{List}
+use native.Mathlib.Omega.{arith}
 use lib.ListN.{length}
+use borrow.Author.Needs.{needs}
 use Rattle.laws.proofs.Clipped.{put-whole}
 use Rattle.texts.proofs.TextAnswers.{answer-short, answer-fits}
 use Rattle.texts.proofs.Trying.{tried-short, tried-fits}
 use Rattle.recordings.specs.Texts.{comparedText, maxComparedText}
 use Rattle.recordings.proofs.Fits.{compared-fits}
--- `write_compared` answers and leaves what its text does in the buffer. Assumes nothing.
-use native.Mathlib.Omega.{arith}
-use borrow.Author.Needs.{needs}
 use Rattle.recordings.proofs.text.write_compared.Statement.{statement}
 use Rattle.recordings.proofs.text.write_compared.Tie as tie
 
 abbrev text : tie.Start → List ℕ
 text s = comparedText (s .args .compared)
 
+-- every text is short
 room : (s : tie.Start) → length (text s) ≤ maxComparedText
 room s = compared-fits (s .args .compared) (search (needs, s .good))
 
