@@ -68,3 +68,13 @@ field-some text v n e =
     let short = leb (length run) maxDigits in
     let r = field-run text v n e in
     omega (arith, r .1, leb-true 1 (length run) (and-left long short (and-left (long && short) (not (leadingZero run)) (r .0))))
+
+-- and no more than the most digits
+pub field-few : (text : List ℕ) (v n : ℕ) → fieldOf text ≡ Number v n → n ≤ maxDigits
+unfolding isNumeral
+field-few text v n e =
+    let run = digitRun text in
+    let long = leb 1 (length run) in
+    let short = leb (length run) maxDigits in
+    let r = field-run text v n e in
+    omega (arith, r .1, leb-true (length run) maxDigits (and-right long short (and-left (long && short) (not (leadingZero run)) (r .0))))

@@ -1,6 +1,6 @@
 -- The first line of a text that is cut off: behind the line, or in it. Assumes nothing.
 --   Front   a text cut off behind its first line has the same first line
-use Prim.Native.Nat.{ℕ, zero, suc, _-_, _≤_, _<_}
+use Prim.Native.Nat.{ℕ, zero, suc, _+_, _-_, _≤_, _<_}
 use mathlib.Core.Bool.{true, false}
 use mathlib.Core.List.{List, [], _∷_}
 use mathlib.Core.Path.{_≡_, refl, sym, ap, ap₂, _∙_}
@@ -63,3 +63,13 @@ cut (suc (suc m)) (b ∷ c ∷ text) h =
     by-test (isBreak b c)
     (λ t. absurd (omega (arith, break-length b c text t)))
     (λ t. first-cons b c (take m text) t ∙ ap (λ (l : List ℕ). b ∷ l) (cut (suc m) (c ∷ text) (omega (arith, cons-length b c text t))))
+
+-- ---- a line's end takes at most two bytes
+pub line-length : (text : List ℕ) → lineLength text ≤ length (firstLine text) + 2
+unfolding firstLine
+line-length [] = omega arith
+line-length (b ∷ []) = omega arith
+line-length (b ∷ c ∷ text) =
+    by-test (isBreak b c)
+    (λ t. omega (arith, break-length b c text t))
+    (λ t. omega (arith, cons-length b c text t, ap length (first-cons b c text t), line-length (c ∷ text)))

@@ -3,3 +3,4 @@ pub mod RowsRead
 pub mod Headers
 pub mod Order
 pub mod Readable
+pub mod Fronts

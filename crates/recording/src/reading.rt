@@ -31,9 +31,11 @@ pub struct Recording {
 impl Recording {
     pub const MAX_ROWS: usize = 256;
 
-    // The most bytes of a recording that is read: a header of 19 and rows of 29, as `16,64,9999999999,9999999999` with its line end. Of a longer text
-    // the first byte more decides already: it follows the last row, or a line without an end before it is too long for a row.
-    pub const MAX_TEXT: usize = 19 + 29 * Recording::MAX_ROWS;
+    // So many bytes at the start of a text decide how it is read, by the theorem `front-decides`: those of the header and of the most rows, and one more.
+    pub const DECIDING_BYTES: usize = HEADER.len()
+        + 2
+        + Recording::MAX_ROWS * (COLUMNS * 11 + 1)
+        + 1;
 }
 
 // An answer that holds no row.

@@ -8,10 +8,7 @@ use jobs::set::JobSet;
 use kept_tables::read_file;
 use recording::reading::Recording;
 
-// Room for the longest recording that is read and for a byte behind it: a row with its line end takes fewer than 32 bytes.
-const ROOM: usize = 32 * Recording::MAX_ROWS;
-
-// Reads a file and answers how many bytes it has; one that is not there has none.
+// Reads as much of a file as the buffer has room for; one that is not there is an empty text.
 fn read_text(name: &[u8], text: &mut [u8]) -> usize
     ensures { λ r. ⌜ Counts r (now (text .exit)) ⌝ }
 {
@@ -22,9 +19,9 @@ fn read_text(name: &[u8], text: &mut [u8]) -> usize
 }
 
 fn print_recordings(set: JobSet, first: &[u8], second: &[u8]) {
-    let mut one = [0u8; ROOM];
+    let mut one = [0u8; Recording::DECIDING_BYTES];
     let one_length = read_text(first, &mut one);
-    let mut other = [0u8; ROOM];
+    let mut other = [0u8; Recording::DECIDING_BYTES];
     let other_length = read_text(second, &mut other);
     print_compared(set, &one[..one_length], &other[..other_length]);
 }

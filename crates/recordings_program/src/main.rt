@@ -22,13 +22,13 @@ fn read_argument(i: usize, text: &mut [u8]) -> usize
     length
 }
 
-// Buffers of one byte more than the limits tell texts that are too long.
+// A buffer of one byte more than the limit tells a table that is too long, and so many bytes of a recording decide how it is read.
 fn print_comparison() {
     let mut table = [0u8; MAX_TEXT + 1];
     let table_length = read_argument(1, &mut table);
-    let mut first = [0u8; Recording::MAX_TEXT + 1];
+    let mut first = [0u8; Recording::DECIDING_BYTES];
     let first_length = read_argument(2, &mut first);
-    let mut second = [0u8; Recording::MAX_TEXT + 1];
+    let mut second = [0u8; Recording::DECIDING_BYTES];
     let second_length = read_argument(3, &mut second);
     let mut out = [0u8; MAX_COMPARED_TEXT];
     let answer = recordings_text(

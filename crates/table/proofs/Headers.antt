@@ -106,7 +106,7 @@ behind-line prefix text plain =
 
 -- ---- the lines under a header that is some text
 module _ {A : Type 0} (header : List ℕ) (some : 0 < length header) (plain : lacks 13 header ≡ true) (answer : List (List ℕ) → A) (otherwise : A) where
-  under-first : (text : List ℕ) → under header (linesOf text) answer otherwise ≡ cond (isLine header (firstLine text)) (answer (linesOf (afterLine text))) otherwise
+  pub under-first : (text : List ℕ) → under header (linesOf text) answer otherwise ≡ cond (isLine header (firstLine text)) (answer (linesOf (afterLine text))) otherwise
   unfolding linesOf firstLine
   under-first [] = sym (rw (ne-eqb 0 (length header) (λ z. omega arith)))
   under-first (b ∷ text) = rw (lines-cons b text)

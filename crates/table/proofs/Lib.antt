@@ -4,6 +4,7 @@ pub mod Columns
 pub mod Rows
 pub mod Headers
 pub mod NextLine
+pub mod RowLengths
 pub mod Records
 pub mod Tables
 pub mod Accepting
