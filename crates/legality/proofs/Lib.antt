@@ -5,7 +5,5 @@ pub mod Stretches
 pub mod Choices
 pub mod Deciding
 pub mod Differences
-pub mod TracedRows
-pub mod OwnTrace
 pub mod Claims
 pub mod Judging

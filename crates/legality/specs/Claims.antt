@@ -1,9 +1,8 @@
 -- What is proved of recordings; proofs/Claims.antt has the proof of all. Document 02, R-5. Assumes nothing.
-use Rattle.laws.specs.Words.{ℕ, _≤_, _<_, _≡_, _↔_, true, none, List, [], _∷_, _++_, length, numberAt}
+use Rattle.laws.specs.Words.{ℕ, _≤_, _<_, _≡_, _↔_, true, none, List, numberAt}
 use Rattle.jobs.specs.{declared.job.Job.Job, declared.refusal.Check.Check, Checks.checkOf}
 use Rattle.theory.specs.{Table.Table, Table.tableOf, Bounds.ert, Bounds.cja, Bounds.itr}
-use Rattle.machine.specs.{declared.trace.Span.Span, Ticks.machineCheck, Runs.traced}
-use Rattle.recording.specs.{declared.row.Row.Row, Rows.row, Rows.inOrder, Reading.maxRows}
+use Rattle.recording.specs.{declared.row.Row.Row, Rows.inOrder}
 use Rattle.legality.specs.{Recorded.rowEntry, Legality.legal, Legality.Legal, Procedure.done, Procedure.recordingFits, Differences.firstDifference, Differences.FirstAt}
 
 -- Each job's last row ends no later than its bound.
@@ -22,23 +21,6 @@ pub record Claims (t : Table) (rows : List Row) : Type 0 where
 -- They hold of every accepted list of jobs and every recording with rows in order.
 abbrev pub EveryRecording : Type 0
 EveryRecording = (js : List Job) → checkOf js ≡ Check.Passed → (rows : List Row) → inOrder rows ≡ true → Claims (tableOf js) rows
-
--- The spans of a trace, which has the latest first, as rows.
-unfoldable pub rowsTraced : List Span → List Row
-rowsTraced [] = []
-rowsTraced (s ∷ ss) = rowsTraced ss ++ (row (s .at) (s .from) (s .to) ∷ [])
-
--- One field for each theorem on the machine's own trace.
-pub record OwnTrace (js : List Job) (rows : List Row) : Type 0 where
-  -- Its rows are in order, and no more than a recording may have.
-  pub ordered : inOrder rows ≡ true
-  pub few : length rows ≤ maxRows
-  -- It is legal.
-  pub is-legal : legal (tableOf js) rows ≡ true
-
--- They hold of every set and running times that pass the checks 4 to 8.
-abbrev pub EveryTrace : Type 0
-EveryTrace = (js : List Job) (times : List ℕ) → machineCheck js times ≡ Check.Passed → OwnTrace js (rowsTraced (traced js times))
 
 -- One field for each theorem on two recordings.
 pub record TwoClaims (a b : List Row) : Type 0 where

@@ -19,13 +19,13 @@ use Rattle.machine.proofs.Reading.{spans-give-back}
 use Rattle.machine.proofs.SpanOrder.{spans-ordered}
 use Rattle.machine.proofs.SpanTimes.{spans-ended}
 use Rattle.recording.specs.declared.row.Row.{Row}
 use Rattle.legality.specs.Recorded.{rowEntry, endOf, recorded}
 use Rattle.legality.specs.Legality.{isCompleteRun}
-use Rattle.legality.specs.Claims.{rowsTraced}
+use Rattle.own_trace.specs.Claims.{rowsTraced}
 use Rattle.legality.proofs.Rows.{Rising, order-rising, recorded-entry}
 use Rattle.legality.proofs.Work.{work-all, done-le-end}
 use Rattle.legality.proofs.Deciding.{complete-iff}
-use Rattle.legality.proofs.TracedRows.{traced-order, traced-entry, traced-end}
+use Rattle.own_trace.proofs.TracedRows.{traced-order, traced-entry, traced-end}
 
 -- runs with the same entries before n have the same work at n
 work-same : (a b : List Entry) (u n : ℕ) → ((i : ℕ) → i < n → entryAt a i ≡ entryAt b i) → work a n u ≡ work b n u

@@ -18,9 +18,9 @@ use Rattle.machine.proofs.SpanTimes.{EndedBy}
 use Rattle.recording.specs.declared.row.Row.{Row}
 use Rattle.recording.specs.Rows.{row, noRow, follows, inOrder}
 use Rattle.recording.proofs.Order.{order-snoc}
 use Rattle.legality.specs.Recorded.{rowEntry, endFrom, endOf}
-use Rattle.legality.specs.Claims.{rowsTraced}
+use Rattle.own_trace.specs.Claims.{rowsTraced}
 use Rattle.legality.proofs.Rows.{idle-runs}
 
 abbrev rowOf : Span → Row
 rowOf s = row (s .at) (s .from) (s .to)

@@ -1,0 +1,29 @@
+-- The claims of specs/Claims, each by the laws that it follows from. Assumes nothing.
+use native.Mathlib.Omega.{arith}
+use Rattle.theory.specs.Table.{tableOf}
+use Rattle.machine.specs.Ticks.{lastTime}
+use Rattle.machine.specs.Runs.{traced}
+use Rattle.machine.proofs.RunningTimes.{set-passed}
+use Rattle.machine.proofs.Running.{lastRelease, few-jobs, released-by}
+use Rattle.machine.proofs.SpanOrder.{spans-ordered}
+use Rattle.machine.proofs.Claims.{claims as Machine·claims}
+use Rattle.legality.specs.Recorded.{endOf}
+use Rattle.legality.proofs.Claims.{every-recording}
+use Rattle.own_trace.specs.Claims.{EveryTrace, rowsTraced}
+use Rattle.own_trace.proofs.TracedRows.{traced-order, traced-length}
+use Rattle.own_trace.proofs.OwnTrace.{traced-complete}
+
+pub every-trace : EveryTrace
+every-trace js times passed =
+    let t = tableOf js in
+    let machine = Machine·claims js times passed in
+    let few = few-jobs js times passed in
+    let rows = rowsTraced (traced js times) in
+    let order = traced-order (traced js times) (spans-ordered t times lastTime) in
+    let released = released-by js times passed in
+    let complete = traced-complete t times lastRelease few released lastTime (machine .machine-legal (endOf rows)) (machine .run-ends .1) in
+    record {
+      ordered = order;
+      few = omega (arith, traced-length (traced js times), machine .trace-within-twice, few);
+      is-legal = every-recording js (set-passed js times passed) rows order .legal-some .1 (t .earliest, times, complete);
+    }

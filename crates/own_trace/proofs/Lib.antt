@@ -1,0 +1,3 @@
+pub mod TracedRows
+pub mod OwnTrace
+pub mod Claims
