@@ -1,11 +1,13 @@
--- The spans of a trace as rows: they are in order, as many, show the same entries, and end where the latest span does. Assumes spans in order.
-use Prim.Native.Nat.{ℕ, _≤_, _<_}
+-- The spans of a trace as rows: they are in order, as many, of the same jobs and times, show the same entries, and end where the latest span does.
+-- Assumes spans in order.
+--   Told   a row is of one of the first n jobs, and begins and ends by a time
+use Prim.Native.Nat.{ℕ, zero, suc, _≤_, _<_}
 use mathlib.Core.Path.{_≡_, refl, _∙_}
 use mathlib.Core.Bool.{true, _&&_}
 use mathlib.Core.List.{List, [], _∷_, _++_}
 use native.Mathlib.Omega.{arith}
 use lib.Dec.{leb, ltb, eqb}
-use lib.ListN.{length, length-append}
+use lib.ListN.{length, getD, length-append}
 use borrow.Author.Tests.{leb-true, le-leb, le-ltb, eqb-true}
 use Rattle.laws.proofs.Tests.{by-test, never-true, and-left, and-right, and-parts}
 use Rattle.laws.specs.Words.{lastOf}
@@ -13,7 +15,7 @@ use Rattle.laws.proofs.Lists.{last-snoc}
 use Rattle.theory.specs.Runs.{idle}
 use Rattle.machine.specs.declared.trace.Span.{Span}
 use Rattle.machine.specs.Claims.{spanEntry}
-use Rattle.machine.proofs.SpanOrder.{Behind, Ordered}
+use Rattle.machine.proofs.SpanOrder.{Behind, Ordered, Within}
 use Rattle.machine.proofs.SpanTimes.{EndedBy}
 use Rattle.recording.specs.declared.row.Row.{Row}
 use Rattle.recording.specs.Rows.{row, noRow, follows, inOrder}
@@ -38,10 +40,14 @@ span-follows q s ss b = rw (le-leb (q .to) (s .from) (b .0), never-true _ meets)
         omega (arith, b .1 same)
 
 -- the last of the rows is that of the latest span
+traced-last : (q : Span) (ss : List Span) → lastOf noRow (rowsTraced (q ∷ ss)) ≡ rowOf q
+unfolding rowsTraced
+traced-last q ss = last-snoc (rowsTraced ss) noRow (rowOf q)
+
 traced-behind : (s : Span) (ss : List Span) → Behind (s .at) (s .from) ss → 0 < length (rowsTraced ss) → follows (lastOf noRow (rowsTraced ss)) (rowOf s) ≡ true
 unfolding rowsTraced
 traced-behind s [] b some = absurd (omega arith)
-traced-behind s (q ∷ ss) b some = rw (last-snoc (rowsTraced ss) noRow (rowOf q)) (span-follows q s ss b)
+traced-behind s (q ∷ ss) b some = rw (traced-last q ss) (span-follows q s ss b)
 
 pub traced-order : (ss : List Span) → Ordered ss → inOrder (rowsTraced ss) ≡ true
 unfolding rowsTraced
@@ -98,3 +104,23 @@ pub traced-length : (ss : List Span) → length (rowsTraced ss) ≡ length ss
 unfolding rowsTraced
 traced-length [] = refl
 traced-length (s ∷ ss) = length-append (rowsTraced ss) (rowOf s ∷ []) ∙ omega (arith, traced-length ss)
+
+-- ---- jobs and times
+pub record Told (n time : ℕ) (r : Row) : Type 0 where
+  pub at : r .at < n
+  pub from : r .from ≤ time
+  pub to : r .to ≤ time
+
+module _ (n time : ℕ) where
+  told-snoc : (rs : List Row) (r : Row) → ((i : ℕ) → i < length rs → Told n time (getD rs i noRow)) → Told n time r
+      → (i : ℕ) → i < length (rs ++ (r ∷ [])) → Told n time (getD (rs ++ (r ∷ [])) i noRow)
+  told-snoc [] r h told zero l = told
+  told-snoc [] r h told (suc i) l = absurd (omega arith)
+  told-snoc (q ∷ rs) r h told zero l = h 0 (omega arith)
+  told-snoc (q ∷ rs) r h told (suc i) l = told-snoc rs r (λ k m. h (suc k) (omega arith)) told i (omega arith)
+
+  pub traced-told : (ss : List Span) → Within n ss → EndedBy time ss → (i : ℕ) → i < length (rowsTraced ss) → Told n time (getD (rowsTraced ss) i noRow)
+  unfolding rowsTraced
+  traced-told [] w e = λ i l. absurd (omega arith)
+  traced-told (s ∷ ss) w e =
+      told-snoc (rowsTraced ss) (rowOf s) (traced-told ss (w .1) (e .2)) (record { at = w .0; from = e .0; to = e .1 })
