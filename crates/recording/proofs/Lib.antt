@@ -4,3 +4,4 @@ pub mod Headers
 pub mod Order
 pub mod Readable
 pub mod Fronts
+pub mod OwnNumbers
