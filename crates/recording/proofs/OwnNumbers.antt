@@ -1,7 +1,7 @@
 -- Of an accepted set a recording is refused with 15 or 16 alone. Assumes nothing.
 --   Own   a recording that is refused has one of these numbers
 use Prim.Native.Nat.{ℕ}
-use mathlib.Core.Path.{_≡_, refl}
+use mathlib.Core.Path.{_≡_}
 use mathlib.Core.Bool.{Bool, true, false, cond}
 use mathlib.Core.Logic.{_⊎_, inl, inr}
 use mathlib.Core.Option.{Option, none, some}
