@@ -1,7 +1,7 @@
 -- How many digits a number has: the fewest that hold it. Nothing here depends on a word's size.
 -- Assumes nothing.
-use Prim.Native.Nat.{ℕ, zero, suc, _+_, _*_, _^_, _-_, _/_, _≤_, _<_}
-use mathlib.Core.Path.{_≡_, refl}
+use Prim.Native.Nat.{ℕ, zero, suc, _*_, _^_, _-_, _/_, _≤_, _<_}
+use mathlib.Core.Path.{_≡_}
 use native.Mathlib.Omega.{arith}
 use native.Mathlib.Numerals.{add-one}
 use native.Mathlib.Nat.{pow-suc, pow-le-pow-right}
@@ -46,6 +46,10 @@ count-beyond k n h =
     absurd (omega (arith, count-holds n)))
     (λ t. leb-false (digitCount n) k t)
 
+-- a number from a power of ten on, below the next, has one digit more than the power says
+pub count-between : (k : ℕ) {n : ℕ} → 10 ^ k ≤ n → n < 10 ^ suc k → suc k ≡ digitCount n
+count-between k {n} low high = omega (arith, count-beyond k n low, count-within k n high)
+
 -- no fewer digits hold a number
 pub count-fewest : (n : ℕ) → 10 ≤ n → 10 ^ (digitCount n - 1) ≤ n
 count-fewest =
@@ -63,25 +67,3 @@ count-fewest =
         (λ t.
         let g : k ≡ suc (k - 1) = omega (arith, count-some (n / 10)) in
         rw (g, pow-suc) (omega (arith, p (ltb-false (n / 10) 10 t)))))
-
--- `count` powers of ten were passed, and `power` is the next to compare with
-pub record Passed (value count power : ℕ) : Type 0 where
-  pub some : 1 ≤ count
-  pub reached : count ≤ digitCount value
-  pub next : power ≡ 10 ^ count
-
-pub passed-start : (value : ℕ) → Passed value 1 10
-passed-start value = record { some = omega arith; reached = count-some value; next = refl }
-
-pub passed-more : {value count power : ℕ} → Passed value count power → power ≤ value → Passed value (count + 1) (power * 10)
-passed-more {value} {count} {power} p h =
-    record {
-      some = omega arith;
-      reached = omega (arith, count-beyond count value (rw (p .next) at h));
-      next = rw (p .next, add-one, pow-suc) refl;
-    }
-
-pub passed-end : {value count power : ℕ} → Passed value count power → value < power → count ≡ digitCount value
-passed-end {value} {count} {power} p h =
-    let e : count ≡ suc (count - 1) = omega (arith, p .some) in
-    omega (arith, p .reached, count-within (count - 1) value (rw (p .next, e) at h))

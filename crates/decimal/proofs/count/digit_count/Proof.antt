@@ -1,49 +1,93 @@
--- `decimal::count::digit_count` meets its contract: each power of ten that the value reaches is one digit more.
+-- `decimal::count::digit_count` meets its contract: a case is a number below ten, or between two neighbouring powers of ten.
 -- Assumes nothing.
-use Prim.Native.Nat.{_≤_, _-_}
+use mathlib.Core.Path.{sym}
 use native.Mathlib.Omega.{arith}
-use borrow.Author.Needs.{needs}
-use Rattle.decimal.proofs.Counts.{Passed, passed-start, passed-more, passed-end, count-within, ten-within}
+use Rattle.decimal.proofs.Digits.{count-one}
+use Rattle.decimal.proofs.Counts.{count-between}
 use Rattle.decimal.proofs.count.digit_count.Statement.{statement}
 use Rattle.decimal.proofs.count.digit_count.Tie as tie
 
-abbrev Inv-loop : tie.InvT-loop
-Inv-loop value count₀ power₀ count power = Passed value count power × (count ≤ 19)
+returns : tie.Need-returns
+returns c = sym (count-one _ (omega arith))
 
-abbrev μ-loop : tie.MeasureT-loop
-μ-loop value count₀ power₀ count power = 20 - count
+returns-2 : tie.Need-returns-2
+returns-2 c = count-between 1 (omega arith) (omega arith)
 
-loop-holds : tie.Need-loop-holds Inv-loop μ-loop
-loop-holds c = (passed-start (c .args .value), omega arith)
+returns-3 : tie.Need-returns-3
+returns-3 c = count-between 2 (omega arith) (omega arith)
 
-returns : tie.Need-returns Inv-loop μ-loop
-returns c = omega (arith, passed-more (c .before .before .loop .inv .0) (c .before .loop-test .taken) .reached, count-within 19 (c .before .before .before .args .value) (omega arith))
+returns-4 : tie.Need-returns-4
+returns-4 c = count-between 3 (omega arith) (omega arith)
 
-mul-power : tie.Need-mul-power Inv-loop μ-loop
-mul-power c = omega (arith, c .before .before .loop .inv .0 .next, ten-within {n = c .before .before .loop .count} {m = 18} (omega arith))
+returns-5 : tie.Need-returns-5
+returns-5 c = count-between 4 (omega arith) (omega arith)
 
-add-count : tie.Need-add-count Inv-loop μ-loop
-add-count c = search needs
+returns-6 : tie.Need-returns-6
+returns-6 c = count-between 5 (omega arith) (omega arith)
 
-loop-less : tie.Need-loop-less Inv-loop μ-loop
-loop-less c = search needs
+returns-7 : tie.Need-returns-7
+returns-7 c = count-between 6 (omega arith) (omega arith)
 
-loop-again : tie.Need-loop-again Inv-loop μ-loop
-loop-again c = (passed-more (c .before .before .loop .inv .0) (c .before .loop-test .taken), omega arith)
+returns-8 : tie.Need-returns-8
+returns-8 c = count-between 7 (omega arith) (omega arith)
 
-returns-2 : tie.Need-returns-2 Inv-loop μ-loop
-returns-2 c = passed-end (c .before .loop .inv .0) (c .loop-test .left)
+returns-9 : tie.Need-returns-9
+returns-9 c = count-between 8 (omega arith) (omega arith)
+
+returns-10 : tie.Need-returns-10
+returns-10 c = count-between 9 (omega arith) (omega arith)
+
+returns-11 : tie.Need-returns-11
+returns-11 c = count-between 10 (omega arith) (omega arith)
+
+returns-12 : tie.Need-returns-12
+returns-12 c = count-between 11 (omega arith) (omega arith)
+
+returns-13 : tie.Need-returns-13
+returns-13 c = count-between 12 (omega arith) (omega arith)
+
+returns-14 : tie.Need-returns-14
+returns-14 c = count-between 13 (omega arith) (omega arith)
+
+returns-15 : tie.Need-returns-15
+returns-15 c = count-between 14 (omega arith) (omega arith)
+
+returns-16 : tie.Need-returns-16
+returns-16 c = count-between 15 (omega arith) (omega arith)
+
+returns-17 : tie.Need-returns-17
+returns-17 c = count-between 16 (omega arith) (omega arith)
+
+returns-18 : tie.Need-returns-18
+returns-18 c = count-between 17 (omega arith) (omega arith)
+
+returns-19 : tie.Need-returns-19
+returns-19 c = count-between 18 (omega arith) (omega arith)
+
+returns-20 : tie.Need-returns-20
+returns-20 c = count-between 19 (omega arith) (omega arith)
 
 pub digit-count-spec : {M : Type 1} → statement M
 digit-count-spec =
     tie.close
     (tie.spec
-    Inv-loop
-    μ-loop
-    loop-holds
     returns
-    mul-power
-    add-count
-    loop-less
-    loop-again
-    returns-2)
+    returns-2
+    returns-3
+    returns-4
+    returns-5
+    returns-6
+    returns-7
+    returns-8
+    returns-9
+    returns-10
+    returns-11
+    returns-12
+    returns-13
+    returns-14
+    returns-15
+    returns-16
+    returns-17
+    returns-18
+    returns-19
+    returns-20)
