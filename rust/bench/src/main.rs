@@ -103,6 +103,28 @@ fn print_bounds(jobs: u64, chains: u64, times: &[f64]) {
     println!("{whole:8.0} {:5.2}", whole / plain_whole);
 }
 
+/// What is timed of a table written by a call, with its numbers short and with them as long as can be: that, and the same of the plain reference.
+fn writing_times(jobs: u64, chains: u64) -> Vec<f64> {
+    let numbers: [fn(Job) -> Job; 2] = [
+        |j| Job { release: 0, priority: 0, least: 1, most: 1, deadline: 9, ..j },
+        |j| Job { release: 1_000_000_000, priority: 255, least: 1_000_000, most: 1_000_000, deadline: 4_000_000_000, ..j },
+    ];
+    let measure = |number: fn(Job) -> Job| {
+        let jobs: Vec<Job> = load(jobs, chains).into_iter().map(number).collect();
+        let held = Set::read(&table_text(&jobs)).unwrap();
+        let mut buffer = [0u8; Set::MAX_TEXT];
+        let called = time(|| {
+            black_box(held.write(black_box(&mut buffer)).unwrap());
+        });
+        let plain = time(|| {
+            set::check(black_box(&jobs)).unwrap();
+            black_box(table_text(&jobs));
+        });
+        [called, plain]
+    };
+    numbers.map(measure).concat()
+}
+
 /// What is timed of runs: a busy tick, an idle one, and a busy one of the plain reference.
 fn tick_times(jobs: u64, chains: u64) -> Vec<f64> {
     let mut buffer = vec![0u8; 4_096];
@@ -277,6 +299,12 @@ fn main() {
     let times = least(|jobs, chains| bounds_times(&table_text(&load(jobs, chains))), &LOADS);
     for (&(jobs, chains), times) in LOADS.iter().zip(&times) {
         print_bounds(jobs, chains, times);
+    }
+    println!("  ns: a table written by a call, which checks the set: short numbers, ratio | long ones, ratio");
+    let loads = [(8, 2), (64, 8)];
+    for ((jobs, chains), times) in loads.iter().zip(&least(writing_times, &loads)) {
+        let [short, plain_short, long, plain_long] = times[..] else { unreachable!() };
+        println!("{jobs:2} jobs, {chains} chains: {short:6.0} {:5.2} | {long:6.0} {:5.2}", short / plain_short, long / plain_long);
     }
     println!("  ns a tick: busy, ratio | idle");
     let loads = [(6, 2), (64, 8)];
