@@ -1,4 +1,4 @@
--- Sums over places: monotone, equal term by term, one term raised, limited, counts of places, and split. Assumes nothing.
+-- Sums over places: monotone, equal term by term, added, one term raised, limited, counts of places, and split. Assumes nothing.
 use Prim.Native.Nat.{ℕ, zero, suc, _+_, _*_, _≤_, _<_}
 use mathlib.Core.Path.{_≡_, refl, ap, subst}
 use mathlib.Core.Logic.{_≢_}
@@ -7,7 +7,7 @@ use native.Mathlib.Nat.{add-zero, add-suc}
 use lib.Dec.{eqb}
 use borrow.Author.Tests.{eqb-true, eqb-false}
 use Rattle.laws.specs.Words.{sumBelow}
-use Rattle.laws.proofs.Tests.{by-test, by-last}
+use Rattle.laws.proofs.Tests.{by-test, by-equal, by-last}
 
 pub sum-mono : (n : ℕ) (f g : ℕ → ℕ) → ((i : ℕ) → i < n → f i ≤ g i) → sumBelow n f ≤ sumBelow n g
 unfolding sumBelow
@@ -18,6 +18,11 @@ pub sum-ext : (n : ℕ) (f g : ℕ → ℕ) → ((i : ℕ) → i < n → f i ≡
 unfolding sumBelow
 sum-ext zero f g h = refl
 sum-ext (suc n) f g h = omega (arith, sum-ext n f g (λ i l. h i (omega arith)), h n (omega arith))
+
+pub sum-add : (n : ℕ) (f g : ℕ → ℕ) → sumBelow n (λ i. f i + g i) ≡ sumBelow n f + sumBelow n g
+unfolding sumBelow
+sum-add zero f g = refl
+sum-add (suc n) f g = omega (arith, sum-add n f g)
 
 -- sums that are equal, of terms in order, have equal terms
 pub sum-eq : (n : ℕ) (f g : ℕ → ℕ) → ((i : ℕ) → i < n → f i ≤ g i) → sumBelow n g ≤ sumBelow n f → (i : ℕ) → i < n → f i ≡ g i
@@ -56,6 +61,15 @@ unfolding sumBelow
 sum-zero zero f h = refl
 sum-zero (suc n) f h = omega (arith, sum-zero n f (λ i l. h i (omega arith)), h n (omega arith))
 
+-- terms that are 0 but for one
+pub sum-only : (n : ℕ) (f : ℕ → ℕ) (k m : ℕ) → f k ≤ m → ((i : ℕ) → i < n → i ≢ k → f i ≡ 0) → sumBelow n f ≤ m
+unfolding sumBelow
+sum-only zero f k m l h = omega arith
+sum-only (suc n) f k m l h =
+    by-equal n k
+    (λ e. omega (arith, ap f e, sum-zero n f (λ i il. h i (omega arith) (omega arith))))
+    (λ ne. omega (arith, sum-only n f k m l (λ i il d. h i (omega arith) d), h n (omega arith) ne))
+
 pub sum-one : (n : ℕ) (f : ℕ → ℕ) (i : ℕ) → i < n → f i ≤ sumBelow n f
 unfolding sumBelow
 sum-one zero f i l = absurd (omega arith)
@@ -85,6 +99,10 @@ pub sum-split : (f : ℕ → ℕ) (n m : ℕ) → sumBelow (n + m) f ≡ sumBelo
 unfolding sumBelow
 sum-split f n zero = rw (add-zero n, add-zero (sumBelow n f)) refl
 sum-split f n (suc m) = rw (add-suc n m) (omega (arith, sum-split f n m))
+
+-- terms that are 0 add nothing to those before them
+pub sum-still : (f : ℕ → ℕ) (n m : ℕ) → ((i : ℕ) → i < m → f (n + i) ≡ 0) → sumBelow (n + m) f ≡ sumBelow n f
+sum-still f n m h = omega (arith, sum-split f n m, sum-zero m (λ i. f (n + i)) h)
 
 -- terms that are 0 but for those of a window
 pub sum-window : (f : ℕ → ℕ) (first size rest : ℕ) → ((u : ℕ) → u < first → f u ≡ 0) → ((i : ℕ) → i < rest → f (first + (size + i)) ≡ 0)

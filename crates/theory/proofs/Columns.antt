@@ -49,6 +49,12 @@ seen columns =
       latest = λ i. figure columns 2 i;
     }
 
+-- The table of the first jobs that columns show.
+abbrev pub shown : ℕ → List (List ℕ) → Table
+shown count columns =
+    let t = seen columns in
+    record { count = count; chain = t .chain; urgency = t .urgency; least = t .least; most = t .most; earliest = t .earliest; latest = t .latest }
+
 -- Two tables agree in the figures that the machine reads of their first n jobs.
 pub record Alike (a b : Table) (n : ℕ) : Type 0 where
   pub chain : (i : ℕ) → i < n → a .chain i ≡ b .chain i

@@ -1,10 +1,13 @@
 -- The first release that is still to come.
---   next-after   it comes after the time
---   next-le      none of those still to come is before it
+--   next-after      it comes after the time
+--   next-le         none of those still to come is before it
+--   next-attained   it is one of them, or the limit
+--   next-same       it is the same from each time before it
 -- Assumes nothing.
 use Prim.Native.Nat.{ℕ, zero, suc, _≤_, _<_, min}
-use mathlib.Core.Path.{_≡_, refl, ap, _∙_}
+use mathlib.Core.Path.{_≡_, refl, sym, ap, _∙_}
 use mathlib.Core.Bool.{cond}
+use mathlib.Core.Logic.{_⊎_, inl, inr}
 use native.Mathlib.Omega.{arith}
 use lib.Dec.{ltb}
 use borrow.Author.Tests.{lt-ltb, le-ltb}
@@ -48,3 +51,30 @@ module _ (limit : ℕ) (release : ℕ → ℕ) (time : ℕ) where
       by-last u n l
       (λ e. omega (arith, next-later n (omega (arith, ap release e)), ap release e))
       (λ below. omega (arith, next-shrinks n, next-le n u below later))
+
+  pub next-attained : (n : ℕ) → (nextRelease limit release time n ≡ limit) ⊎ ((u : ℕ) × (u < n) × (release u ≡ nextRelease limit release time n))
+  next-attained zero = inl next-none
+  next-attained (suc n) =
+      by-order (release n) time
+      (λ past. kept (next-past n past) (next-attained n))
+      (λ later.
+      by-order (nextRelease limit release time n) (release n)
+      (λ l. kept (omega (arith, next-later n later)) (next-attained n))
+      (λ l. inr (n, omega arith, omega (arith, next-later n later))))
+    where
+      kept : nextRelease limit release time (suc n) ≡ nextRelease limit release time n
+          → (nextRelease limit release time n ≡ limit) ⊎ ((u : ℕ) × (u < n) × (release u ≡ nextRelease limit release time n))
+          → (nextRelease limit release time (suc n) ≡ limit) ⊎ ((u : ℕ) × (u < suc n) × (release u ≡ nextRelease limit release time (suc n)))
+      kept same (inl e) = inl (same ∙ e)
+      kept same (inr w) = inr (w .0, omega (arith, w .1), w .2 ∙ sym same)
+
+pub next-same : (limit : ℕ) (release : ℕ → ℕ) (time to n : ℕ) → time ≤ to → to < nextRelease limit release time n
+    → nextRelease limit release to n ≡ nextRelease limit release time n
+next-same limit release time to zero l before = next-none limit release to ∙ sym (next-none limit release time)
+next-same limit release time to (suc n) l before =
+    let rest = next-same limit release time to n l (omega (arith, next-shrinks limit release time n)) in
+    by-order (release n) time
+    (λ past. next-past limit release to n (omega arith) ∙ rest ∙ sym (next-past limit release time n past))
+    (λ later.
+    let here = next-later limit release time n later in
+    omega (arith, rest, here, next-later limit release to n (omega (arith, here))))
