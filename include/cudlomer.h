@@ -147,8 +147,8 @@ CUDLOMER_SIZE(cudlomer_comparison, 4);
 int64_t cudlomer_bounds(const uint8_t *text, size_t text_length, uint8_t *out, size_t out_length);
 
 /* Writes `chain,job,from,to` and a row for each longest run of one job, the earliest first, with CR LF, into the buffer: when the machine runs
- * the jobs from time 0, each for its most time. Answers how many bytes were written. Refuses a bad text, then with 9. While a job runs the machine
- * goes from tick to tick, at some 2 nanoseconds for each tick and job of the table where this was measured; it passes over idle time. */
+ * the jobs from time 0, each for its most time. Answers how many bytes were written. Refuses a bad text, then with 9. A run goes from one release or
+ * completion to the next, in at most twice as many steps as there are jobs, however long it is, and each step scans the jobs. */
 int64_t cudlomer_trace(const uint8_t *text, size_t text_length, uint8_t *out, size_t out_length);
 
 /* Answers 1 where each job's bound by the algorithm is at or before its deadline, and 0 where one is not. Refuses a bad text, then with 10. */
@@ -175,6 +175,7 @@ int64_t cudlomer_set_tick(const uint64_t *jobs, size_t jobs_length, const uint64
 int64_t cudlomer_set_run(const uint64_t *jobs, size_t jobs_length, const uint64_t *times, size_t times_length, uint64_t *out, size_t out_length);
 int64_t cudlomer_set_trace(const uint64_t *jobs, size_t jobs_length, const uint64_t *times, size_t times_length, uint64_t *out,
                            size_t out_length);
+int64_t cudlomer_set_steps(const uint64_t *jobs, size_t jobs_length, const uint64_t *times, size_t times_length);
 int64_t cudlomer_set_waveform(const uint64_t *jobs, size_t jobs_length, const uint64_t *times, size_t times_length, uint8_t *out,
                               size_t out_length);
 int64_t cudlomer_set_compare(const uint64_t *jobs, size_t jobs_length, const uint8_t *first, size_t first_length, const uint8_t *second,
@@ -305,6 +306,14 @@ static inline int64_t cudlomer_jobs_trace(const struct cudlomer_job *jobs, size_
 {
     return cudlomer_set_trace((const uint64_t *)jobs, CUDLOMER_NUMBERS(cudlomer_job, count), times, times_count, (uint64_t *)rows,
                               CUDLOMER_NUMBERS(cudlomer_row, room));
+}
+
+/* Runs the set from time 0, with a running time for each job. Answers how many steps that takes: one for each different time after 0 at which a
+ * job is released, also where it cannot run yet, or is complete; at most twice as many as there are jobs. Refuses a bad set, then with 8. To go
+ * through the same run tick by tick there is cudlomer_jobs_tick. */
+static inline int64_t cudlomer_jobs_steps(const struct cudlomer_job *jobs, size_t count, const uint64_t *times, size_t times_count)
+{
+    return cudlomer_set_steps((const uint64_t *)jobs, CUDLOMER_NUMBERS(cudlomer_job, count), times, times_count);
 }
 
 /* Runs the set from time 0, with a running time for each job, and writes the run into the buffer as a value change dump of IEEE 1364, each line

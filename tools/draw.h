@@ -13,7 +13,7 @@ enum { KINDS = 5 };
 static const struct kind { uint64_t chains[2], jobs[2], release, priority, most, deadline; } kinds[KINDS] = {
     { { 1, 4 }, { 1, 4 }, 20, 3, 6, 60 },                            /* small */
     { { 1, 6 }, { 1, 6 }, 60, 5, 12, 300 },                          /* dense */
-    { { 1, 3 }, { 1, 3 }, 20, 255, 3, 4000000000 },                  /* extreme, with short runs */
+    { { 16, 16 }, { 4, 4 }, 40000000, 5, 1000000, 4000000000 },      /* 64 long jobs */
     { { 1, 8 }, { 1, 8 }, 1000000000, 255, 1000000, 4000000000 },    /* extreme */
     { { 16, 16 }, { 4, 4 }, 400, 9, 30, 4000 },                      /* 64 jobs */
 };

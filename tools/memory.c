@@ -18,6 +18,7 @@ static void check_nothing(void)
     count(cudlomer_set_rounds(NULL, 0) == -7 && cudlomer_set_admit(NULL, 0, 0, NULL, 0, 3) == -7, "rounds of no set, and no chain");
     count(cudlomer_set_tick(NULL, 0, NULL, 0, NULL, 0) == -7 && cudlomer_set_run(NULL, 0, NULL, 0, NULL, 0) == -7, "a run of no set");
     count(cudlomer_set_trace(NULL, 0, NULL, 0, NULL, 0) == -7 && cudlomer_set_waveform(NULL, 0, NULL, 0, NULL, 0) == -7, "a trace of no set");
+    count(cudlomer_set_steps(NULL, 0, NULL, 0) == -7, "steps of no set");
     count(cudlomer_set_compare(NULL, 0, NULL, 0, NULL, 0, NULL, 0) == -7, "recordings of no set");
 }
 

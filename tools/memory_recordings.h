@@ -6,7 +6,7 @@
 #include "draw.h"
 #include "lend.h"
 
-enum { WORD = sizeof(uint64_t), LONGEST_RECORDED = 5000 };
+enum { WORD = sizeof(uint64_t) };
 
 static int64_t set_compare(struct ranges read, void *out, size_t size)
 {
@@ -31,16 +31,11 @@ static int64_t check_pair(const uint64_t *numbers, size_t length, const char *fi
     return answer;
 }
 
-/* The recording of a run of jobs, where there is little work, beside itself and a damaged one; the numbers are these jobs or damaged ones. */
+/* The recording of a run of jobs beside itself and a damaged one; the numbers are these jobs or damaged ones. */
 static void check_recordings(const uint64_t *numbers, size_t length, const struct cudlomer_job *jobs, size_t jobs_count, const uint64_t *times)
 {
     char text[ROOM], damaged[ROOM];
     struct cudlomer_row rows[CUDLOMER_MAX_ROWS];
-    uint64_t work = 0;
-    for (size_t i = 0; i < jobs_count; i++)
-        work += times[i];
-    if (work > LONGEST_RECORDED)
-        return;
     int64_t rows_count = cudlomer_jobs_trace(jobs, jobs_count, times, jobs_count, rows, CUDLOMER_MAX_ROWS);
     size_t end = write_recording(rows, rows_count < 0 ? 0 : (size_t)rows_count, text);
     memcpy(damaged, text, end);

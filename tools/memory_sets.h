@@ -7,7 +7,7 @@
 #include "lend.h"
 #include "memory_recordings.h"
 
-enum { MOST_TICKS = 10, LONGEST_WORK = 5000 };
+enum { MOST_TICKS = 10 };
 
 static uint64_t algorithm, held;
 
@@ -87,16 +87,23 @@ static void check_admission(const uint64_t *numbers, size_t length, const uint64
     }
 }
 
-/* The run as a whole, its trace and its waveform, where there is little work, or where all is refused. */
+/* The steps, which write nothing, of a run of so many jobs that ends so or is refused. */
+static void check_steps(struct ranges timed, size_t jobs_count, int64_t end)
+{
+    uint64_t *jobs = lend(FIRST, timed.first, timed.first_size), *times = lend(SECOND, timed.second, timed.second_size);
+    int64_t steps = cudlomer_set_steps(jobs, timed.first_size / WORD, times, timed.second_size / WORD);
+    count(end < 0 ? steps == end : steps >= 1 && steps <= 2 * (int64_t)jobs_count, "set_steps");
+    count(returned(jobs, timed.first, timed.first_size), "the set that is read");
+    count(returned(times, timed.second, timed.second_size), "the times that are read");
+}
+
+/* The run as a whole, its steps, its trace and its waveform. */
 static void check_run(struct ranges timed)
 {
-    uint64_t work = 0;
-    for (size_t i = 0; i < timed.second_size / WORD; i++)
-        work += ((const uint64_t *)timed.second)[i];
-    if (work > LONGEST_WORK)
-        return;
     size_t jobs = (timed.first_size + sizeof(struct cudlomer_job) - 1) / sizeof(struct cudlomer_job);
-    check_sizes("set_run", set_run, timed, WORD, jobs * WORD, call_with_room(set_run, timed));
+    int64_t end = call_with_room(set_run, timed);
+    check_sizes("set_run", set_run, timed, WORD, jobs * WORD, end);
+    check_steps(timed, jobs, end);
     check_sizes("set_trace", set_trace, timed, WORD, jobs * 2 * sizeof(struct cudlomer_row), call_with_room(set_trace, timed));
     int64_t bytes = call_with_room(set_waveform, timed);
     check_sizes("set_waveform", set_waveform, timed, 1, bytes < 0 ? 40 : (size_t)bytes, bytes);

@@ -5,8 +5,6 @@
 #include "cudlomer.h"
 #include "lend.h"
 
-enum { LONGEST_RUN = 10000 };
-
 static int64_t text_bounds(struct ranges text, void *out, size_t size)
 {
     return cudlomer_bounds(text.first, text.first_size, out, size);
@@ -30,16 +28,6 @@ static int64_t check_writer(const char *what, call *function, struct ranges text
     return answer;
 }
 
-/* Whether every ITR bound of the bounds text, by which a job is complete in every run, is at most LONGEST_RUN. */
-static int runs_shortly(const char *bounds)
-{
-    unsigned long itr;
-    for (const char *end = strchr(bounds, '\n'); end != NULL && end[1] != 0; end = strchr(end + 1, '\n'))
-        if (sscanf(end + 1, "%*u,%*u,%*u,%*u,%lu", &itr) == 1 && itr > LONGEST_RUN)
-            return 0;
-    return 1;
-}
-
 /* A verdict or a number of rounds, which write nothing, by what they may be once the text has passed. */
 static void check_numbers(const char *table, size_t length, int64_t answer)
 {
@@ -59,9 +47,8 @@ static void check_text(const char *table, size_t length)
     struct ranges text = { .first = table, .first_size = length };
     memset(before, FILL, ROOM);
     int64_t answer = check_writer("bounds", text_bounds, text);
-    after[answer < 0 ? 0 : answer] = 0;
-    if (runs_shortly((char *)after))
-        check_writer("trace", text_trace, text);
+    int64_t trace = check_writer("trace", text_trace, text);
+    count(answer < 0 ? trace == answer : trace >= 0, "a trace where there are bounds");
     int64_t jobs = call_with_room(text_set, text);
     check_sizes("set_read", text_set, text, sizeof(uint64_t), jobs < 0 ? 40 : (size_t)jobs * sizeof(struct cudlomer_job), jobs);
     check_numbers(table, length, answer);

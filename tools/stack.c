@@ -37,6 +37,7 @@ static void set_admit(void)
 static void set_tick(void) { answer = cudlomer_jobs_tick(jobs, count, times, count, &state); }
 static void set_run(void) { answer = cudlomer_jobs_run(jobs, count, times, count, figures, CUDLOMER_MAX_JOBS); }
 static void set_trace(void) { answer = cudlomer_jobs_trace(jobs, count, times, count, rows, CUDLOMER_MAX_ROWS); }
+static void set_steps(void) { answer = cudlomer_jobs_steps(jobs, count, times, count); }
 static void set_waveform(void) { answer = cudlomer_jobs_waveform(jobs, count, times, count, out, sizeof out); }
 static void set_compare(void) /* of the run's trace text beside itself */
 {
@@ -50,7 +51,8 @@ static const struct function {
     { "bounds", bounds },           { "trace", trace },           { "verdict", verdict },           { "rounds", rounds },
     { "set_read", set_read },       { "set_write", set_write },   { "set_bounds", set_bounds },     { "set_blocks", set_blocks },
     { "set_verdict", set_verdict }, { "set_rounds", set_rounds }, { "set_admit", set_admit },       { "set_tick", set_tick },
-    { "set_run", set_run },         { "set_trace", set_trace },   { "set_waveform", set_waveform }, { "set_compare", set_compare },
+    { "set_run", set_run },         { "set_trace", set_trace },   { "set_steps", set_steps },       { "set_waveform", set_waveform },
+    { "set_compare", set_compare },
 };
 
 enum { FUNCTIONS = sizeof functions / sizeof functions[0] };

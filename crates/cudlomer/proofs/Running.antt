@@ -20,7 +20,7 @@ use Rattle.theory.specs.Table.{tableOf}
 use Rattle.machine.specs.declared.run.Completed.{Completed}
 use Rattle.machine.specs.declared.trace.Traced.{Traced}
 use Rattle.machine.specs.Ticks.{lastTime, machineCheck}
-use Rattle.machine.specs.Runs.{finish, completions, runOf, traceCheck, traced, traceOf}
+use Rattle.machine.specs.Runs.{finish, completions, stepsOf, runOf, traceCheck, traced, traceOf}
 use Rattle.machine.proofs.Claims.{claims}
 use Rattle.numbers.specs.Numbers.{roomCheck}
 use Rattle.cudlomer.specs.Codes.{refusalCode, checkedCode}
@@ -69,17 +69,26 @@ module _ (js : List Job) (times : List ℕ) (answer : Completed) (e : answer ≡
         let there = rw n at put in
         rw (← e, told) (ap (λ (k : Check). checkedCode k (answer .end)) (rw size at (there .0)), there .1)
 
--- ---- the entries of a trace are few
-entries-by : (k : Check) (n m : ℕ) → onPass k Traced.Refused (Traced.Entries n) ≡ Traced.Entries m → (k ≡ Passed → n ≤ lastTime) → m ≤ lastTime
-entries-by Passed n m e few =
-    let same : n ≡ m = ap (λ (x : Traced). elim x [ Traced.Entries i ↦ i | Traced.Refused r ↦ 0 ]) e in
-    omega (arith, same, few refl)
-entries-by (Refused r) n m e few = let z : _≡_ {A = ℕ} 0 1 = cc in absurd (omega arith)
+  -- ---- the steps are few
+  steps-by : (k : Check) → machineCheck js times ≡ k → answer .steps ≡ onPass k (λ r. 0) (stepsOf (tableOf js) times) → answer .steps ≤ lastTime
+  steps-by Passed k is = omega (arith, is, claims js times k .steps-within-twice, few-jobs js times k)
+  steps-by (Refused r) k is = omega (arith, is)
 
-pub entries-few : (js : List Job) (times : List ℕ) (room : ℕ) (answer : Traced) → answer ≡ traceOf js times room → (n : ℕ) → answer ≡ Traced.Entries n → n ≤ lastTime
+  pub steps-few : answer .steps ≤ lastTime
+  unfolding runOf
+  steps-few = steps-by (machineCheck js times) refl (ap (λ (a : Completed). a .steps) e)
+
+-- ---- the entries of a trace are few
+entries-by : (k : Check) (n s m s' : ℕ) → onPass k Traced.Refused (Traced.Entries n s) ≡ Traced.Entries m s' → (k ≡ Passed → n ≤ lastTime) → m ≤ lastTime
+entries-by Passed n s m s' e few =
+    let same : n ≡ m = ap (λ (x : Traced). elim x [ Traced.Entries i s ↦ i | Traced.Refused r ↦ 0 ]) e in
+    omega (arith, same, few refl)
+entries-by (Refused r) n s m s' e few = let z : _≡_ {A = ℕ} 0 1 = cc in absurd (omega arith)
+
+pub entries-few : (js : List Job) (times : List ℕ) (room : ℕ) (answer : Traced) → answer ≡ traceOf js times room → (n steps : ℕ) → answer ≡ Traced.Entries n steps → n ≤ lastTime
 unfolding traceOf traceCheck
-entries-few js times room answer e n told =
-    entries-by (traceCheck js times room) (length (traced js times)) n (sym e ∙ told)
+entries-few js times room answer e n steps told =
+    entries-by (traceCheck js times room) (length (traced js times)) (stepsOf (tableOf js) times) n steps (sym e ∙ told)
     (λ all.
     let passed = then-first (machineCheck js times) _ all in
     omega (arith, claims js times passed .trace-within-twice, few-jobs js times passed))

@@ -37,5 +37,5 @@ tickedCode (Ticked.Refused refusal) = refusalCode refusal
 
 -- How many entries a trace has, or that.
 abbrev pub tracedCode : Traced → ℤ
-tracedCode (Traced.Entries n) = pos n
+tracedCode (Traced.Entries n steps) = pos n
 tracedCode (Traced.Refused refusal) = refusalCode refusal

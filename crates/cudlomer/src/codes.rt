@@ -67,11 +67,11 @@ pub(crate) fn ticked_code(ticked: Ticked) -> i64
 
 // What a trace of few entries came to.
 pub(crate) fn traced_code(traced: Traced) -> i64
-    requires { ⌜ ((n : ℕ) → traced ≡ Traced.Entries n → n ≤ lastTime) ⌝ }
+    requires { ⌜ ((n steps : ℕ) → traced ≡ Traced.Entries n steps → n ≤ lastTime) ⌝ }
     ensures { λ r. ⌜ r ≡ tracedCode traced ⌝ }
 {
     match traced {
-        Traced::Entries(entries) => entries as i64,
+        Traced::Entries { entries, .. } => entries as i64,
         Traced::Refused(refusal) => negated(refusal),
     }
 }

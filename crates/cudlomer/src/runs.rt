@@ -1,9 +1,9 @@
-// The functions that run a set in the caller's memory: one tick, the run, its trace and its waveform.
+// The functions that run a set in the caller's memory: one tick, the run, its steps, its trace and its waveform.
 ghost use Rattle.laws.specs.Words.{_≡_, length};
 ghost use Rattle.jobs.specs.{declared.refusal.Refusal.Refusal, Refusals.onPass, Jobs.jobsOf};
-ghost use Rattle.machine.specs.{Ticks.machineCheck, Runs.traceOf, Runs.tracedIn};
+ghost use Rattle.machine.specs.{Ticks.machineCheck, Runs.runOf, Runs.traceOf, Runs.tracedIn};
 ghost use Rattle.waveform.specs.Answers.{waveformAnswer, waveformLeft};
-ghost use Rattle.cudlomer.specs.{Codes.refusalCode, Codes.tracedCode, Codes.writtenCode};
+ghost use Rattle.cudlomer.specs.{Codes.refusalCode, Codes.checkedCode, Codes.tracedCode, Codes.writtenCode};
 ghost use Rattle.cudlomer.specs.Sets.{jobsHere, tickCode, tickInto, runCode, runInto};
 use crate::codes::checked_code;
 use crate::codes::negated;
@@ -76,6 +76,16 @@ pub extern "C" fn cudlomer_set_trace(jobs: &[u64], times: &[u64], out: &mut [u64
     ensures { λ r. let js = jobsHere (now (jobs .entry)) in ⌜ (r ≡ tracedCode (traceOf js (now (times .entry)) (length (now (out .entry))))) × (now (out .exit) ≡ tracedIn js (now (times .entry)) (now (out .entry))) ⌝ }
 {
     traced_code(trace(held_set(jobs), times, out))
+}
+
+// The steps of the run from event to event.
+#[no_mangle]
+pub extern "C" fn cudlomer_set_steps(jobs: &[u64], times: &[u64]) -> i64
+    ensures { λ r. let answer = runOf (jobsHere (now (jobs .entry))) (now (times .entry)) in ⌜ r ≡ checkedCode (answer .check) (answer .steps) ⌝ }
+{
+    let answer = run(held_set(jobs), times);
+    let check = answer.check;
+    checked_code(check, answer.steps)
 }
 
 // Writes the waveform of the run into out, and answers how many bytes it takes.

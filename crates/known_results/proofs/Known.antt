@@ -21,6 +21,7 @@ use Rattle.theory.specs.Claims.{Demand3}
 use Rattle.theory.proofs.Claims.{claims}
 use Rattle.machine.specs.Order.{readySince, outranks}
 use Rattle.machine.specs.Ticks.{lastTime, allComplete, machineCheck, better, bestUpTo, pick, next}
+use Rattle.machine.specs.Events.{isEvent, events}
 use Rattle.machine.specs.Runs.{noted, rows}
 use Rattle.machine.proofs.Forward.{Carried, onward, carried, run-carried, trace-carried}
 use Rattle.known_results.specs.Cases.{KnownRun, runWith, Known, knownAt, Case, jobsIn, byDefinition, minus, p1, p4, p5, p6, p7, p8, equalsInOrder, cases}
@@ -28,7 +29,7 @@ use Rattle.known_results.specs.Cases.{KnownRun, runWith, Known, knownAt,
 -- ---- runs
 -- what ticks carried forward give of a run
 abbrev runBy : List Job → List ℕ → Carried → KnownRun
-runBy js times c = (times, (tabulate 0 (length js) (λ u. getD (c .state .completions) u 0), c .state .time), rows js (c .spans))
+runBy js times c = (times, (tabulate 0 (length js) (λ u. getD (c .state .completions) u 0), c .state .time, events (tableOf js) (numberAt (c .state .completions)) (c .state .time)), rows js (c .spans))
 
 settled-run : (js : List Job) (r : KnownRun) → machineCheck js (r .0) ≡ Passed → r .1 .1 ≤ lastTime
     → allComplete (r .0) (carried (tableOf js) (r .0) (r .1 .1) .state .work) (length js) ≡ true
@@ -88,7 +89,7 @@ pub first-and-rest : {A : Type 0} {x y : A} {xs ys : List A} → x ≡ y → xs 
 first-and-rest e f = rw (e, f)
 
 pub known-results : map byDefinition cases ≡ cases
-unfolding EachSettled urgencyOf tabulate sumBelow greatest lastOf isNext inLimits recordCheck recordsCheck checkOf joined effectiveRelease openBlock largestBlock interference ertRule interferenceAt ert demand lowest pairBound largestPair cjaWith cja itrStart overlap round sameUpTo settle roundLimit itr slacks meets everyBelow timesFit machineCheck complete predecessorComplete ready readySince outranks better bestUpTo pick next noted rows onward carried
+unfolding EachSettled urgencyOf tabulate sumBelow greatest lastOf isNext inLimits recordCheck recordsCheck checkOf joined effectiveRelease openBlock largestBlock interference ertRule interferenceAt ert demand lowest pairBound largestPair cjaWith cja itrStart overlap round sameUpTo settle roundLimit itr slacks meets everyBelow timesFit machineCheck complete predecessorComplete ready readySince outranks better bestUpTo pick next isEvent events noted rows onward carried
 known-results =
     first-and-rest (figures p1 refl refl refl refl refl refl refl (refl, omega arith, refl, refl, (refl, omega arith, refl, refl, tt)))
     (first-and-rest (figures (p4 12 (pos 0) true) refl refl refl refl refl refl refl (refl, omega arith, refl, refl, tt))

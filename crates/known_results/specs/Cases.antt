@@ -6,15 +6,15 @@ use Rattle.jobs.specs.{declared.job.Job.Job, declared.refusal.Check.Check, Jobs
 use Rattle.theory.specs.{Table.tableOf, Bounds.interferenceAt, Bounds.ert, Bounds.cja, Bounds.itr, Bounds.slacks, Bounds.meets}
 use Rattle.machine.specs.{Runs.runOf, Runs.rows, Runs.traced}
 
--- Running times and what is known of the run with them: each job's completion in table order and its end, and the rows of its trace.
+-- Running times and what is known of the run with them: each job's completion in table order, its end and its steps, and the rows of its trace.
 abbrev pub KnownRun : Type 0
-KnownRun = List ℕ × (List ℕ × ℕ) × List ℕ
+KnownRun = List ℕ × (List ℕ × ℕ × ℕ) × List ℕ
 
 -- The same, by the definitions.
 unfoldable pub runWith : List Job → List ℕ → KnownRun
 runWith js times =
     let run = runOf js times in
-    (times, (tabulate 0 (length js) (λ u. getD (run .completions) u 0), run .end), rows js (traced js times))
+    (times, (tabulate 0 (length js) (λ u. getD (run .completions) u 0), run .end, run .steps), rows js (traced js times))
 
 -- A job with its effective release, its interference, and its columns of the bounds text: ERT, CJA, ITR, slack.
 abbrev pub Known : Type 0
@@ -54,7 +54,7 @@ row c k from to = c ∷ k ∷ from ∷ to ∷ []
 abbrev pub p2 : KnownRun
 p2 = (
   40 ∷ 10 ∷ 50 ∷ 85 ∷ 10 ∷ 50 ∷ [],
-  (50 ∷ 60 ∷ 160 ∷ 245 ∷ 40 ∷ 110 ∷ [], 245),
+  (50 ∷ 60 ∷ 160 ∷ 245 ∷ 40 ∷ 110 ∷ [], 245, 10),
   row 1 1 0 30 ++ row 2 1 30 40 ++ row 1 1 40 50 ++ row 1 2 50 60 ++ row 2 2 60 110 ++ row 1 3 110 160 ++ row 1 4 160 245,
 )
 
@@ -62,7 +62,7 @@ p2 = (
 abbrev pub p3 : KnownRun
 p3 = (
   30 ∷ 10 ∷ 50 ∷ 85 ∷ 10 ∷ 50 ∷ [],
-  (30 ∷ 40 ∷ 160 ∷ 245 ∷ 50 ∷ 110 ∷ [], 245),
+  (30 ∷ 40 ∷ 160 ∷ 245 ∷ 50 ∷ 110 ∷ [], 245, 10),
   row 1 1 0 30 ++ row 1 2 30 40 ++ row 2 1 40 50 ++ row 2 2 60 110 ++ row 1 3 110 160 ++ row 1 4 160 245,
 )
 
@@ -83,7 +83,7 @@ p1 = (
 -- P4: one job, with the deadline that its bound meets and with the one before; before its release the machine is idle.
 abbrev pub p4 : ℕ → ℤ → Bool → Case
 p4 deadline slack verdict =
-    ((job 1 1 5 1 3 7 deadline, 5, 0, 12, 12, 12, slack) ∷ [], (Check.Passed, 1, verdict), (3 ∷ [], (8 ∷ [], 8), row 1 1 5 8) ∷ [])
+    ((job 1 1 5 1 3 7 deadline, 5, 0, 12, 12, 12, slack) ∷ [], (Check.Passed, 1, verdict), (3 ∷ [], (8 ∷ [], 8, 2), row 1 1 5 8) ∷ [])
 
 -- P5: equals in two chains.
 abbrev pub p5 : Case
@@ -94,7 +94,7 @@ abbrev pub p6 : Case
 p6 = (
   (job 1 1 0 1 4 6 6, 0, 0, 6, 6, 6, pos 0) ∷ (job 1 2 1 1 2 2 9, 4, 0, 8, 8, 8, pos 1) ∷ [],
   (Check.Passed, 1, true),
-  (4 ∷ 2 ∷ [], (4 ∷ 6 ∷ [], 6), row 1 1 0 4 ++ row 1 2 4 6) ∷ (6 ∷ 2 ∷ [], (6 ∷ 8 ∷ [], 8), row 1 1 0 6 ++ row 1 2 6 8) ∷ [],
+  (4 ∷ 2 ∷ [], (4 ∷ 6 ∷ [], 6, 2), row 1 1 0 4 ++ row 1 2 4 6) ∷ (6 ∷ 2 ∷ [], (6 ∷ 8 ∷ [], 8, 3), row 1 1 0 6 ++ row 1 2 6 8) ∷ [],
 )
 
 -- P7: spans that touch.
@@ -110,7 +110,7 @@ abbrev pub equalsInOrder : Case
 equalsInOrder = (
   (job 1 1 2 1 3 3 9, 2, 4, 9, 9, 9, pos 0) ∷ (job 2 1 0 1 4 4 7, 0, 3, 7, 7, 7, pos 0) ∷ [],
   (Check.Passed, 2, true),
-  (3 ∷ 4 ∷ [], (7 ∷ 4 ∷ [], 7), row 2 1 0 4 ++ row 1 1 4 7) ∷ [],
+  (3 ∷ 4 ∷ [], (7 ∷ 4 ∷ [], 7, 3), row 2 1 0 4 ++ row 1 1 4 7) ∷ [],
 )
 
 -- The table of cases.

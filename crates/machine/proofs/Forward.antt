@@ -16,7 +16,9 @@ use Rattle.machine.specs.declared.state.State.{State}
 use Rattle.machine.specs.declared.trace.Span.{Span}
 use Rattle.machine.specs.Ticks.{lastTime, start, allComplete, machineCheck, pick, next}
 use Rattle.machine.specs.Runs.{after, entry, runOf, noted, spans, traced}
-use Rattle.machine.proofs.Running.{at-limit, run-settled}
+use Rattle.machine.proofs.Runnable.{run-passed, runnable}
+use Rattle.machine.proofs.Running.{at-limit}
+use Rattle.machine.proofs.Steps.{answerBy, completed-settled}
 use Rattle.machine.proofs.Tracing.{spans-settled}
 
 pub record Carried : Type 0 where
@@ -56,8 +58,8 @@ module _ (js : List Job) (times : List ℕ) (passed : machineCheck js times ≡ 
     settled : allComplete times (after t times n .work) (length js) ≡ true
     settled = rw (carried-state t times n) at done
 
-    pub run-carried : runOf js times ≡ record { check = Passed; completions = carried t times n .state .completions; end = carried t times n .state .time }
-    run-carried = sym (rw (← carried-state t times n) at (run-settled js times passed n settled early))
+    pub run-carried : runOf js times ≡ answerBy t (carried t times n .state)
+    run-carried = run-passed js times passed ∙ completed-settled (runnable js times passed) n settled early ∙ ap (answerBy t) (sym (carried-state t times n))
 
     pub trace-carried : traced js times ≡ carried t times n .spans
     trace-carried = at-limit (spans t times) n (spans-settled t times n settled) early ∙ sym (carried-spans t times n)

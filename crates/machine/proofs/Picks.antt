@@ -2,7 +2,7 @@
 --   Chosen   a ready job among the first n that is before every other one
 --   Picked   what the best of the first n jobs is
 use Prim.Native.Nat.{ℕ, zero, suc, _+_, _≤_, _<_}
-use mathlib.Core.Path.{_≡_, refl, ap, _∙_}
+use mathlib.Core.Path.{_≡_, refl, sym, ap, subst, _∙_}
 use mathlib.Core.Bool.{true, false, cond}
 use mathlib.Core.List.{List}
 use mathlib.Core.Logic.{_⊎_, inl, inr, ⊎-elim}
@@ -78,6 +78,13 @@ module _ (t : Table) where
         by-test (readyIn t times s n)
         (λ r. rw r (ready-next n r (bestUpTo t times s n) (picked-up-to n)))
         (λ r. rw r (unready n r (bestUpTo t times s n) (picked-up-to n)))
+
+pub best-inside : (t : Table) (times : List ℕ) (s : State) (n : ℕ) (best : Best) → best ≡ bestUpTo t times s n → best .found ≡ true → best .at < n
+best-inside t times s n best e f = by-picked (subst (Picked t times s n) (sym e) (picked-up-to t times s n))
+  where
+    by-picked : Picked t times s n best → best .at < n
+    by-picked (none g h) = absurd (both-ways f g)
+    by-picked (one g h chosen) = chosen .inside
 
 pub best-step : (t : Table) (times : List ℕ) (s : State) (best : Best) (u : ℕ) → best ≡ bestUpTo t times s u
     → cond (readyIn t times s u) (better best u (rankOf t (numberAt (s .completions)) u)) best ≡ bestUpTo t times s (u + 1)

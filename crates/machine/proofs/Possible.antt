@@ -93,6 +93,14 @@ module _ (t : Table) (times : List ℕ) where
         (λ a. rw (after-next t times n, next-stays t times s a) (sound n))
         (λ a. rw (after-next t times n, next-moved t times s (pick t times s) refl a) (sound-moved n (sound n) (pick t times s) refl))
 
+    -- a complete job was released before
+    pub complete-released : (n u : ℕ) → u < t .count → complete times (numberAt (after t times n .work)) u ≡ true → t .earliest u < after t times n .time
+    complete-released n u l c = by-begun (sound n .begun u l)
+      where
+        by-begun : Begun (after t times n) u → t .earliest u < after t times n .time
+        by-begun (inl e) = absurd (omega (arith, positive u l, e, complete-eq times (numberAt (after t times n .work)) u c))
+        by-begun (inr b) = b .1
+
     module _ (n : ℕ) (early : after t times n .time ≤ lastTime) where
       abbrev now : State
       now = after t times n

@@ -1,43 +1,41 @@
--- A run as the code makes it: counters of work, what is left of it, and the time. Assumes a set and running times that have passed.
---   Reached   what holds at the head of a run's loop
---   Turn      what is known in a turn of the loop after the scan
-use Prim.Native.Nat.{ℕ, zero, suc, _+_, _-_, _*_, _≤_, _<_}
+-- A run as the engine makes it: counters of work, what is left of it, the time and the next release. Assumes a runnable table.
+--   Reached   what holds at the head of the loop
+--   Turn      what is known in a turn of the loop, once its leg is worked out
+use Prim.Native.Nat.{ℕ, suc, _+_, _-_, _≤_, _<_, min}
 use mathlib.Core.Path.{_≡_, refl, sym, ap, subst, _∙_}
-use mathlib.Core.Bool.{true, false}
+use mathlib.Core.Bool.{true, false, cond}
 use mathlib.Core.List.{List}
+use mathlib.Core.Logic.{_⊎_, inl, inr}
 use native.Mathlib.Omega.{arith}
-use native.Mathlib.Numerals.{add-one}
-use native.Mathlib.Nat.{add-zero, zero-add}
-use lib.ListN.{length, getD, set, replicate}
-use lib.Seq.{ext-getD}
-use Rattle.laws.specs.Words.{tabulate}
-use Rattle.laws.proofs.Tests.{by-test}
-use Rattle.laws.proofs.Sums.{sum-zero}
+use native.Mathlib.Nat.{zero-add}
+use lib.Dec.{ltb}
+use lib.ListN.{length, getD, replicate}
+use lib.Seq.{getD-set-same, getD-set-other, ext-getD}
+use borrow.Author.Tests.{lt-ltb, le-ltb}
+use Rattle.laws.specs.Words.{tabulate, numberAt}
+use Rattle.laws.proofs.Tests.{by-test, by-order}
+use Rattle.laws.proofs.Sums.{sum-zero, sum-mono, sum-bump}
 use Rattle.laws.proofs.Tabulate.{length-tabulate, getD-tabulate}
-use Rattle.jobs.specs.declared.job.Job.{Job}
-use Rattle.jobs.specs.declared.set.JobSet.{JobSet}
-use Rattle.jobs.specs.declared.refusal.Refusal.{Refusal}
-use Rattle.jobs.specs.declared.refusal.Check.the-variants.{Passed, Refused}
-use Rattle.jobs.specs.Limits.{maxJobs, maxRelease, maxTime}
-use Rattle.jobs.specs.Jobs.{jobsOf}
-use Rattle.jobs.proofs.Sets.{length-jobs}
-use Rattle.theory.specs.Table.{Table, tableOf}
-use Rattle.theory.specs.Runs.{Entry, idle, runs}
-use Rattle.theory.proofs.Columns.{seen}
-use Rattle.theory.proofs.NextRelease.{next-le}
-use Rattle.theory.proofs.Releases.{earliest-latest}
-use Rattle.theory.proofs.AcceptedSets.{accepted-latest}
+use Rattle.jobs.specs.Limits.{maxJobs, maxTime}
+use Rattle.theory.specs.Table.{Table}
+use Rattle.theory.specs.Runs.{Entry, idle, runs, complete}
+use Rattle.theory.proofs.Legal.{eq-complete}
+use Rattle.theory.proofs.Columns.{seen, shown}
+use Rattle.theory.proofs.NextRelease.{nextRelease, next-after, next-le, next-same}
 use Rattle.machine.specs.declared.state.State.{State}
 use Rattle.machine.specs.declared.pick.Best.{Best}
-use Rattle.machine.specs.declared.run.Completed.{Completed}
-use Rattle.machine.specs.Ticks.{lastTime, allComplete, machineCheck, bestUpTo, pick, moved}
-use Rattle.machine.specs.Runs.{after, entry, completion, finish, completions, runOf}
+use Rattle.machine.specs.declared.leg.Leg.{Leg}
+use Rattle.machine.specs.Ticks.{lastTime, allComplete, bestUpTo, pick}
+use Rattle.machine.specs.Runs.{after, entry, completion, finish, completions}
+use Rattle.theory.proofs.Runnable.{lastRelease, Runnable}
 use Rattle.machine.proofs.Readiness.{stateOf}
-use Rattle.machine.proofs.Idling.{nextTime, time-ran, time-idle, next-later, pick-same}
-use Rattle.machine.proofs.RunningTimes.{sumOf, set-accepted, times-each, times-brief, sum-limit}
-use Rattle.machine.proofs.Ticking.{Prepared, count-times, pick-chosen, next-moved, advance-none, advance-found, advance-inside, advance-room, advance-work}
-use Rattle.machine.proofs.Course.{sum-worked, all-sum, sum-all, none-done, after-next, after-settled, Going, going, idle-early}
+use Rattle.machine.proofs.RunningTimes.{sumOf}
+use Rattle.machine.proofs.Picks.{best-alike}
+use Rattle.machine.proofs.Ticking.{pick-chosen}
+use Rattle.machine.proofs.Course.{all-sum, sum-all, none-done, after-settled, Going, runs-left}
 use Rattle.machine.proofs.Completions.{completion-settled, kept-all}
+use Rattle.machine.proofs.Legs.{Left, left-part, entry-leg, after-leg, movedBy, legOf}
+use Rattle.machine.proofs.Runnable.{work-limit, goes}
 
 -- ---- what further ticks leave as it is, at the limit on times
 pub at-limit : {A : Type 0} (f : ℕ → A) (n : ℕ) → ((m : ℕ) → f (n + m) ≡ f n) → n ≤ lastTime → f lastTime ≡ f n
@@ -45,226 +43,262 @@ at-limit f n stays l =
     let e : n + (lastTime - n) ≡ lastTime = omega (arith, l) in
     subst (λ (k : ℕ). f k ≡ f n) e (stays (lastTime - n))
 
--- ---- an accepted set and its running times
-abbrev pub lastRelease : ℕ
-lastRelease = maxRelease + maxJobs * maxTime
-
 nothing-done : (n : ℕ) → _≡_ {A = ℕ} (sumOf (replicate maxJobs 0) n) 0
 nothing-done n = sum-zero n (λ i. getD (replicate maxJobs 0) i 0) (λ i l. none-done maxJobs i)
 
-pub record Reached (js : List Job) (times work completions : List ℕ) (left time : ℕ) : Type 0 where
-  pub here : after (tableOf js) times time ≡ stateOf time work completions
-  pub rest : left + sumOf work (length js) ≡ sumOf times (length js)
-  pub early : time ≤ lastRelease + sumOf work (length js)
+-- the next release, worked out anew only where it has come
+abbrev pub releaseAfter : Table → ℕ → ℕ → ℕ
+releaseAfter t next time = cond (ltb time next) next (nextRelease lastTime (t .earliest) time (t .count))
 
-module _ (js : List Job) (times : List ℕ) (passed : machineCheck js times ≡ Passed) where
-  abbrev t : Table
-  t = tableOf js
+pub record Reached (t : Table) (times work completions : List ℕ) (left time release : ℕ) : Type 0 where
+  pub here : after t times time ≡ stateOf time work completions
+  pub rest : left + sumOf work (t .count) ≡ sumOf times (t .count)
+  pub early : time ≤ lastRelease + sumOf work (t .count)
+  pub next : release ≡ nextRelease lastTime (t .earliest) time (t .count)
 
-  pub few-jobs : length js ≤ maxJobs
-  few-jobs = set-accepted js times passed .few
-
-  pub released-by : (u : ℕ) → u < length js → t .earliest u ≤ lastRelease
-  released-by u l = omega (arith, earliest-latest js u, accepted-latest js (set-accepted js times passed) u l)
-
-  pub goes : (n : ℕ) → Going t times lastRelease few-jobs released-by n (after t times n)
-  goes = going t times lastRelease few-jobs released-by
-
-  pub work-limit : sumOf times (length js) ≤ maxJobs * maxTime
-  work-limit = omega (arith, sum-limit times (times-brief js times passed .1) (length js) (omega (arith, times-each js times passed)), few-jobs)
-
-  pub reached-start : (left : ℕ) → left ≡ sumOf times (length times) → Reached js times (replicate maxJobs 0) (replicate maxJobs 0) left 0
+module _ {t : Table} {times : List ℕ} (r : Runnable t times) where
+  pub reached-start : (left release : ℕ) → left ≡ sumOf times (length times) → release ≡ nextRelease lastTime (t .earliest) 0 (t .count)
+      → Reached t times (replicate maxJobs 0) (replicate maxJobs 0) left 0 release
   unfolding after
-  reached-start left e =
+  reached-start left release e next =
       record {
         here = refl;
-        rest = omega (arith, nothing-done (length js), ap (sumOf times) (times-each js times passed));
+        rest = omega (arith, nothing-done (t .count), ap (sumOf times) (r .each));
         early = omega arith;
+        next = next;
       }
 
-  module _ {work completed : List ℕ} {left time : ℕ} (r : Reached js times work completed left time) where
-    now : Going t times lastRelease few-jobs released-by time (stateOf time work completed)
-    now = rw (r .here) at (goes time)
-
-    pub reached-long : length work ≡ maxJobs
-    reached-long = now .long
-
-    pub reached-noted : length completed ≡ maxJobs
-    reached-noted = now .noted
-
-    pub reached-within : (u : ℕ) → u < length js → getD work u 0 ≤ getD times u 0
-    reached-within = now .within
-
-    pub reached-entry : entry t times time ≡ pick t times (stateOf time work completed)
-    unfolding entry
-    reached-entry = ap (pick t times) (r .here)
-
-    -- with work left
-    module _ (more : 0 < left) where
-      pub reached-open : allComplete times work (length js) ≡ false
-      reached-open =
-          by-test (allComplete times work (length js))
-          (λ h. absurd (omega (arith, all-sum times work (length js) h, r .rest)))
-          (λ h. h)
-
-      pub reached-early : time < lastTime
-      reached-early = omega (arith, r .early, r .rest, work-limit)
-
-      next-here : (e : Entry) → pick t times (stateOf time work completed) ≡ e → after t times (time + 1) ≡ moved times e (stateOf time work completed)
-      next-here e q = rw (add-one, after-next, r .here) (next-moved t times (stateOf time work completed) e q reached-open)
-
-      pub reached-ran : (u : ℕ) → pick t times (stateOf time work completed) ≡ runs u
-          → Reached js times (moved times (runs u) (stateOf time work completed) .work) (moved times (runs u) (stateOf time work completed) .completions) (left - 1) (time + 1)
-      reached-ran u q =
-          let inside = pick-chosen t times (stateOf time work completed) u q .inside in
-          let more-work = sum-worked work u (length js) inside (omega (arith, reached-long, few-jobs)) in
-          record { here = next-here (runs u) q; rest = omega (arith, r .rest, more-work); early = omega (arith, r .early, more-work) }
-
-      pub reached-idle : pick t times (stateOf time work completed) ≡ idle → Reached js times work completed left (time + 1)
-      reached-idle q =
-          record {
-            here = next-here idle q;
-            rest = r .rest;
-            early = omega (arith, idle-early t times lastRelease few-jobs released-by (stateOf time work completed) q reached-open);
-          }
-
-    -- with none left
-    module _ (none : left ≤ 0) where
-      pub reached-all : allComplete times work (length js) ≡ true
-      reached-all = sum-all times work (length js) reached-within (omega (arith, r .rest))
-
-      pub reached-settled : allComplete times (after t times time .work) (length js) ≡ true
-      reached-settled = rw (r .here) reached-all
-
-      pub reached-limit : time ≤ lastTime
-      reached-limit = omega (arith, r .early, r .rest, work-limit)
-
-      pub reached-finish : finish t times ≡ stateOf time work completed
-      reached-finish = at-limit (after t times) time (after-settled t times time reached-settled) reached-limit ∙ r .here
-
-  -- ---- idle time: where nothing is picked and no release comes before b, every tick until then is idle
-  module _ {work completed : List ℕ} {left time : ℕ} (r : Reached js times work completed left time) (more : 0 < left) (q : pick t times (stateOf time work completed) ≡ idle) (b : ℕ)
-      (apart : (u : ℕ) → u < length js → time < t .earliest u → b ≤ t .earliest u) where
-    still : (d : ℕ) → time + d < b → pick t times (stateOf (time + d) work completed) ≡ idle
-    still d l = pick-same t times work completed time b apart (time + d) (omega arith) l ∙ q
-
-    reached-on : (d : ℕ) → time + d ≤ b → Reached js times work completed left (time + d)
-    reached-on zero l = rw (add-zero time) r
-    reached-on (suc d) l =
-        let e : time + d + 1 ≡ time + suc d = omega arith in
-        subst (Reached js times work completed left) e (reached-idle (reached-on d (omega arith)) more (still d (omega arith)))
-
-    kept-on : (P : ℕ → Type 0) → ((s : ℕ) → entry t times s ≡ idle → P s → P (s + 1)) → P time → (d : ℕ) → time + d ≤ b → P (time + d)
-    kept-on P step p zero l = rw (add-zero time) p
-    kept-on P step p (suc d) l =
-        let e : time + d + 1 ≡ time + suc d = omega arith in
-        subst P e (step (time + d) (reached-entry (reached-on d (omega arith)) ∙ still d (omega arith)) (kept-on P step p d (omega arith)))
-
-    pub reached-next : time ≤ b → Reached js times work completed left b
-    reached-next l = let e : time + (b - time) ≡ b = omega arith in subst (Reached js times work completed left) e (reached-on (b - time) (omega arith))
-
-    pub kept-next : time ≤ b → (P : ℕ → Type 0) → ((s : ℕ) → entry t times s ≡ idle → P s → P (s + 1)) → P time → P b
-    kept-next l P step p = let e : time + (b - time) ≡ b = omega arith in subst P e (kept-on P step p (b - time) (omega arith))
-
-  -- ---- the answer
-  pub settled-completions : (n : ℕ) → allComplete times (after t times n .work) (length js) ≡ true → n ≤ lastTime → after t times n .completions ≡ completions t times
+  -- ---- the answer of a run in which all is complete after n ticks
+  pub settled-completions : (n : ℕ) → allComplete times (after t times n .work) (t .count) ≡ true → n ≤ lastTime → after t times n .completions ≡ completions t times
   unfolding completions
   settled-completions n settled early =
-      let long = goes n .noted in
+      let long = goes r n .noted in
       ext-getD 0 (after t times n .completions) (tabulate 0 maxJobs (λ u. completion t times u lastTime)) (long ∙ sym (length-tabulate 0 maxJobs (λ u. completion t times u lastTime)))
       (λ u l.
-      kept-all t times lastRelease few-jobs released-by n settled u
+      kept-all t times lastRelease (r .few) (r .released) n settled u
       ∙ sym (at-limit (completion t times u) n (completion-settled t times u n settled) early)
       ∙ ap (λ (k : ℕ). completion t times k lastTime) (sym (zero-add u))
       ∙ sym (getD-tabulate 0 maxJobs (λ k. completion t times k lastTime) 0 u (omega (arith, long))))
 
-  pub run-settled : (n : ℕ) → allComplete times (after t times n .work) (length js) ≡ true → n ≤ lastTime
-      → _≡_ {A = Completed} (record { check = Passed; completions = after t times n .completions; end = after t times n .time }) (runOf js times)
-  unfolding runOf
-  run-settled n settled early = rw (passed, settled-completions n settled early, at-limit (after t times) n (after-settled t times n settled) early)
+  module _ {work completed : List ℕ} {left time release : ℕ} (h : Reached t times work completed left time release) where
+    abbrev now : State
+    now = stateOf time work completed
 
-  pub run-done : {work completed : List ℕ} {left time : ℕ} → Reached js times work completed left time → left ≤ 0
-      → _≡_ {A = Completed} (record { check = Passed; completions = completed; end = time }) (runOf js times)
-  run-done {work} {completed} {left} {time} r none =
-      subst (λ (s : State). _≡_ {A = Completed} (record { check = Passed; completions = s .completions; end = s .time }) (runOf js times)) (r .here)
-      (run-settled time (reached-settled r none) (reached-limit r none))
+    course : Going t times lastRelease (r .few) (r .released) time now
+    course = rw (h .here) at (goes r time)
 
-pub run-refused : (js : List Job) (times : List ℕ) (r : Refusal) → machineCheck js times ≡ Refused r
-    → runOf js times ≡ record { check = Refused r; completions = replicate maxJobs 0; end = 0 }
-unfolding runOf
-run-refused js times r e = rw e
+    pub reached-within : (u : ℕ) → u < t .count → getD work u 0 ≤ getD times u 0
+    reached-within = course .within
 
--- ---- a turn of the loop, after the scan over the set's columns
-pub record Turn (set : JobSet) (columns : List (List ℕ)) (times work completed : List ℕ) (left time : ℕ) (best : Best) : Type 0 where
-  pub prepared : Prepared set columns times
-  pub reached : Reached (jobsOf set) times work completed left time
+    -- with work left
+    module _ (more : 0 < left) where
+      reached-open : allComplete times work (t .count) ≡ false
+      reached-open =
+          by-test (allComplete times work (t .count))
+          (λ all. absurd (omega (arith, all-sum times work (t .count) all, h .rest)))
+          (λ some. some)
+
+      pub reached-early : time < lastTime
+      reached-early = omega (arith, h .early, h .rest, work-limit r)
+
+      pub reached-wait : time < release
+      reached-wait = omega (arith, h .next, next-after lastTime (t .earliest) time reached-early (t .count))
+
+      -- a leg of so many ticks, up to the next release at most
+      module _ (e : Entry) (q : pick t times now ≡ e) (ticks : ℕ) (some : 0 < ticks) (until : time + ticks ≤ release) (enough : Left times e ticks now) where
+        pub leg-apart : (u : ℕ) → u < t .count → time < t .earliest u → time + ticks ≤ t .earliest u
+        leg-apart u l later = omega (arith, h .next, next-le lastTime (t .earliest) time (t .count) u l later)
+
+        pub leg-entries : (k : ℕ) → time ≤ k → k < time + ticks → entry t times k ≡ e
+        leg-entries k from to =
+            let d : time + (k - time) ≡ k = omega arith in
+            subst (λ (i : ℕ). entry t times i ≡ e) d
+            (entry-leg t times (r .few) time now (h .here) refl (course .long) reached-open e q (time + ticks) leg-apart (k - time) (omega arith)
+            (left-part times e (suc (k - time)) ticks now (omega arith) enough))
+
+        pub leg-after : after t times (time + ticks) ≡ movedBy times ticks e now
+        leg-after =
+            let d : suc (ticks - 1) ≡ ticks = omega arith in
+            subst (λ (i : ℕ). after t times (time + i) ≡ movedBy times i e now) d
+            (after-leg t times (r .few) time now (h .here) refl (course .long) reached-open e q (time + ticks) leg-apart (ticks - 1) (omega arith)
+            (left-part times e (suc (ticks - 1)) ticks now (omega arith) enough))
+
+        pub leg-release : releaseAfter t release (time + ticks) ≡ nextRelease lastTime (t .earliest) (time + ticks) (t .count)
+        leg-release =
+            by-order release (time + ticks)
+            (λ come. rw (le-ltb (time + ticks) release come))
+            (λ coming.
+            rw (lt-ltb (time + ticks) release coming)
+            (h .next ∙ sym (next-same lastTime (t .earliest) time (time + ticks) (t .count) (omega arith) (omega (arith, h .next)))))
+
+    -- with none left
+    module _ (none : left ≤ 0) where
+      pub reached-settled : allComplete times (after t times time .work) (t .count) ≡ true
+      reached-settled = rw (h .here) (sum-all times work (t .count) reached-within (omega (arith, h .rest)))
+
+      pub reached-limit : time ≤ lastTime
+      reached-limit = omega (arith, h .early, h .rest, work-limit r)
+
+      pub reached-finish : finish t times .time ≡ time
+      reached-finish = ap (λ (s : State). s .time) (at-limit (after t times) time (after-settled t times time reached-settled) reached-limit ∙ h .here)
+
+      pub reached-completions : completed ≡ completions t times
+      reached-completions = ap (λ (s : State). s .completions) (sym (h .here)) ∙ settled-completions time reached-settled reached-limit
+
+-- ---- a turn of the loop
+-- the best of the jobs that columns show
+pub best-shown : (count : ℕ) (columns : List (List ℕ)) (times : List ℕ) (s : State) → bestUpTo (seen columns) times s count ≡ bestUpTo (shown count columns) times s count
+best-shown count columns times s = best-alike {n = count} (record { chain = λ i l. refl; urgency = λ i l. refl; release = λ i l. refl }) times s count (omega arith)
+
+pub record Turn (t : Table) (times work completed : List ℕ) (left time release : ℕ) (leg : Leg) : Type 0 where
+  pub runnable : Runnable t times
+  pub reached : Reached t times work completed left time release
   pub more : 0 < left
-  pub scanned : best ≡ bestUpTo (seen columns) times (stateOf time work completed) (set .count)
+  pub worked-out : leg ≡ legOf times (stateOf time work completed) (bestUpTo t times (stateOf time work completed) (t .count)) release
 
-module _ {set : JobSet} {columns : List (List ℕ)} {times work completed : List ℕ} {left time : ℕ} {best : Best} (turn : Turn set columns times work completed left time best) where
-  abbrev js : List Job
-  js = jobsOf set
+module _ {t : Table} {times work completed : List ℕ} {left time release : ℕ} {leg : Leg} (turn : Turn t times work completed left time release leg) where
+  abbrev state : State
+  state = stateOf time work completed
 
-  abbrev passed : machineCheck js times ≡ Passed
-  passed = turn .prepared .0
+  abbrev best : Best
+  best = bestUpTo t times state (t .count)
+
+  found-is : leg .found ≡ best .found
+  found-is = ap (λ (l : Leg). l .found) (turn .worked-out)
+
+  at-is : leg .at ≡ best .at
+  at-is = ap (λ (l : Leg). l .at) (turn .worked-out)
+
+  ticks-are : leg .ticks ≡ cond (best .found) (min (release - time) (getD times (best .at) 0 - getD work (best .at) 0)) (release - time)
+  ticks-are = ap (λ (l : Leg). l .ticks) (turn .worked-out)
+
+  wait : time < release
+  wait = reached-wait (turn .runnable) (turn .reached) (turn .more)
 
   pub turn-early : time < lastTime
-  turn-early = reached-early js times passed (turn .reached) (turn .more)
+  turn-early = reached-early (turn .runnable) (turn .reached) (turn .more)
 
-  module _ (f : best .found ≡ true) where
-    found : pick (tableOf js) times (stateOf time work completed) ≡ runs (best .at)
-    found = advance-found set columns times (turn .prepared) (stateOf time work completed) best (turn .scanned) f
+  -- a job runs
+  module _ (f : leg .found ≡ true) where
+    found-ticks : leg .ticks ≡ min (release - time) (getD times (leg .at) 0 - getD work (leg .at) 0)
+    found-ticks = ticks-are ∙ rw (sym found-is ∙ f, at-is)
 
-    pub turn-room : best .at < maxJobs
-    turn-room = advance-room set columns times (turn .prepared) (stateOf time work completed) best (turn .scanned) f
+    found : pick t times state ≡ runs (leg .at)
+    unfolding pick
+    found = rw (sym found-is ∙ f, at-is)
 
-    pub turn-inside : best .at < set .count
-    turn-inside = advance-inside set columns times (turn .prepared) (stateOf time work completed) best (turn .scanned) f
+    pub turn-inside : leg .at < t .count
+    turn-inside = pick-chosen t times state (leg .at) found .inside
 
-    turn-work : getD work (best .at) 0 < getD times (best .at) 0
-    turn-work =
-        advance-work set columns times (turn .prepared) (stateOf time work completed) best (turn .scanned) f
-        (reached-within js times passed (turn .reached) (best .at) (omega (arith, turn-inside, length-jobs set)))
+    has-work : getD work (leg .at) 0 < getD times (leg .at) 0
+    has-work = runs-left t times lastRelease (turn .runnable .few) (turn .runnable .released) state (leg .at) found (reached-within (turn .runnable) (turn .reached))
 
-    -- what a tick of work on the job asks for, and the state after it
-    pub turn-works : (best .at < maxJobs) × (best .at < length times) × (getD work (best .at) 0 < maxTime) × (time ≤ lastTime)
-    turn-works =
-        let known : best .at < length times = omega (arith, turn-inside, count-times set times passed) in
-        (turn-room, known, omega (arith, turn-work, times-brief js times passed .1 (best .at) known), omega (arith, turn-early))
+    some : 0 < leg .ticks
+    some = omega (arith, found-ticks, wait, has-work)
+
+    until : time + leg .ticks ≤ release
+    until = omega (arith, found-ticks, wait)
+
+    enough : getD work (leg .at) 0 + leg .ticks ≤ getD times (leg .at) 0
+    enough = omega (arith, found-ticks, has-work)
+
+    -- what the work on the job asks for, and the state after it
+    pub turn-works : (leg .at < maxJobs) × (leg .at < length times) × (getD work (leg .at) 0 + leg .ticks ≤ maxTime) × (time ≤ lastTime)
+    turn-works = (
+      omega (arith, turn-inside, turn .runnable .few),
+      omega (arith, turn-inside, turn .runnable .each),
+      omega (arith, enough, turn .runnable .brief (leg .at) turn-inside),
+      omega (arith, turn-early),
+    )
 
     abbrev ran : State
-    ran = moved times (runs (best .at)) (stateOf time work completed)
+    ran = movedBy times (leg .ticks) (runs (leg .at)) state
 
-    pub turn-reached : Reached js times (ran .work) (ran .completions) (left - 1) (time + 1)
-    turn-reached = reached-ran js times passed (turn .reached) (turn .more) (best .at) found
+    ran-after : after t times (time + leg .ticks) ≡ ran
+    ran-after = leg-after (turn .runnable) (turn .reached) (turn .more) (runs (leg .at)) found (leg .ticks) some until enough
 
-    pub turn-entry : entry (tableOf js) times time ≡ runs (best .at)
-    turn-entry = reached-entry js times passed (turn .reached) ∙ found
+    ran-course : Going t times lastRelease (turn .runnable .few) (turn .runnable .released) (time + leg .ticks) ran
+    ran-course = rw ran-after at (goes (turn .runnable) (time + leg .ticks))
 
-  -- the time at which the machine is looked at again
-  module _ (later : ℕ) (e : later ≡ nextTime (best .found) (seen columns .earliest) time (set .count)) where
-    pub turn-later : time < later
-    turn-later = next-later (seen columns .earliest) time (set .count) (best .found) later turn-early e
+    ran-work : getD (ran .work) (leg .at) 0 ≡ getD work (leg .at) 0 + leg .ticks
+    ran-work = getD-set-same work (leg .at) (getD work (leg .at) 0 + leg .ticks) 0 (omega (arith, turn-inside, turn .runnable .few, course (turn .runnable) (turn .reached) .long))
 
-    pub turn-ran : best .found ≡ true → later ≡ time + 1
-    turn-ran f = time-ran (seen columns .earliest) time (set .count) (best .found) later f e
+    more-work : sumOf (ran .work) (t .count) ≡ sumOf work (t .count) + leg .ticks
+    more-work =
+        sum-bump (t .count) (λ i. getD work i 0) (λ i. getD (ran .work) i 0) (leg .at) (leg .ticks) turn-inside
+        ran-work
+        (λ i l ne. getD-set-other work (leg .at) i (getD work (leg .at) 0 + leg .ticks) 0 ne)
 
-    module _ (f : best .found ≡ false) where
-      none-picked : pick (tableOf js) times (stateOf time work completed) ≡ idle
-      none-picked = advance-none set columns times (turn .prepared) (stateOf time work completed) best (turn .scanned) f
+    pub turn-left : leg .ticks ≤ left
+    turn-left = omega (arith, turn .reached .rest, more-work, sum-mono (t .count) (λ i. getD (ran .work) i 0) (λ i. getD times i 0) (ran-course .within))
 
-      none-before : (u : ℕ) → u < length js → time < tableOf js .earliest u → later ≤ tableOf js .earliest u
-      none-before u l after =
-          let shown = turn .prepared .1 .release u (omega (arith, length-jobs set)) in
-          omega (
-            arith,
-            time-idle (seen columns .earliest) time (set .count) (best .found) later f e,
-            shown,
-            next-le lastTime (seen columns .earliest) time (set .count) u (omega (arith, length-jobs set)) (omega (arith, shown)),
-          )
+    pub turn-ran : Reached t times (ran .work) (ran .completions) (left - leg .ticks) (time + leg .ticks) (releaseAfter t release (time + leg .ticks))
+    turn-ran =
+        record {
+          here = ran-after;
+          rest = omega (arith, turn .reached .rest, more-work, turn-left);
+          early = ran-course .early;
+          next = leg-release (turn .runnable) (turn .reached) (turn .more) (runs (leg .at)) found (leg .ticks) some until enough;
+        }
 
-      pub idle-reached : Reached js times work completed left later
-      idle-reached = reached-next js times passed (turn .reached) (turn .more) none-picked later none-before (omega (arith, turn-later))
+    -- it has all its work done in the end
+    pub ran-complete : getD work (leg .at) 0 + leg .ticks ≡ getD times (leg .at) 0 → complete times (numberAt (after t times (time + leg .ticks) .work)) (leg .at) ≡ true
+    ran-complete all = rw ran-after (eq-complete times (numberAt (ran .work)) (leg .at) (ran-work ∙ all))
 
-      pub idle-kept : (P : ℕ → Type 0) → ((s : ℕ) → entry (tableOf js) times s ≡ idle → P s → P (s + 1)) → P time → P later
-      idle-kept = kept-next js times passed (turn .reached) (turn .more) none-picked later none-before (omega (arith, turn-later))
+    pub ran-entries : (k : ℕ) → time ≤ k → k < time + leg .ticks → entry t times k ≡ runs (leg .at)
+    ran-entries = leg-entries (turn .runnable) (turn .reached) (turn .more) (runs (leg .at)) found (leg .ticks) some until enough
+
+  -- none runs
+  module _ (f : leg .found ≡ false) where
+    pub idle-ticks : time + leg .ticks ≡ release
+    idle-ticks = let e : leg .ticks ≡ release - time = ticks-are ∙ rw (sym found-is ∙ f) in omega (arith, e, wait)
+
+    none-picked : pick t times state ≡ idle
+    unfolding pick
+    none-picked = rw (sym found-is ∙ f)
+
+    idle-some : 0 < leg .ticks
+    idle-some = omega (arith, idle-ticks, wait)
+
+    idle-after : after t times (time + leg .ticks) ≡ stateOf (time + leg .ticks) work completed
+    idle-after = leg-after (turn .runnable) (turn .reached) (turn .more) idle none-picked (leg .ticks) idle-some (omega (arith, idle-ticks)) tt
+
+    pub turn-idle : Reached t times work completed left (time + leg .ticks) (releaseAfter t release (time + leg .ticks))
+    turn-idle =
+        record {
+          here = idle-after;
+          rest = turn .reached .rest;
+          early = rw idle-after at (goes (turn .runnable) (time + leg .ticks) .early);
+          next = leg-release (turn .runnable) (turn .reached) (turn .more) idle none-picked (leg .ticks) idle-some (omega (arith, idle-ticks)) tt;
+        }
+
+    pub idle-entries : (k : ℕ) → time ≤ k → k < time + leg .ticks → entry t times k ≡ idle
+    idle-entries = leg-entries (turn .runnable) (turn .reached) (turn .more) idle none-picked (leg .ticks) idle-some (omega (arith, idle-ticks)) tt
+
+  -- ---- in either case
+  pub turn-apart : (u : ℕ) → u < t .count → time < t .earliest u → time + leg .ticks ≤ t .earliest u
+  turn-apart u l later =
+      let next = next-le lastTime (t .earliest) time (t .count) u l later in
+      by-test (leg .found)
+      (λ f. omega (arith, until f, turn .reached .next))
+      (λ f. omega (arith, idle-ticks f, turn .reached .next))
+
+  pub turn-some : 0 < leg .ticks
+  turn-some = by-test (leg .found) (λ f. some f) (λ f. idle-some f)
+
+  -- a leg ends before the limit on times
+  pub turn-limit : time + leg .ticks < lastTime
+  turn-limit =
+      by-test (leg .found)
+      (λ f. omega (arith, turn-ran f .early, turn-ran f .rest, work-limit (turn .runnable)))
+      (λ f. omega (arith, turn-idle f .early, turn-idle f .rest, work-limit (turn .runnable)))
+
+  -- it ends with the next release, or with its job complete
+  pub turn-ends : (time + leg .ticks ≡ release) ⊎ ((leg .found ≡ true) × (getD work (leg .at) 0 + leg .ticks ≡ getD times (leg .at) 0))
+  turn-ends =
+      by-test (leg .found)
+      (λ f.
+      by-order (release - time) (getD times (leg .at) 0 - getD work (leg .at) 0)
+      (λ l. inl (omega (arith, found-ticks f, wait)))
+      (λ l. inr (f, omega (arith, found-ticks f, has-work f))))
+      (λ f. inl (idle-ticks f))

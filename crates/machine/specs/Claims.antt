@@ -4,7 +4,7 @@ use Rattle.jobs.specs.declared.{job.Job.Job, refusal.Check.Check}
 use Rattle.jobs.specs.Limits.{maxJobs}
 use Rattle.theory.specs.{Table.tableOf, Bounds.itr, Runs.Entry, Runs.idle, Runs.runs, Runs.complete, Runs.isRun}
 use Rattle.machine.specs.declared.{state.State.State, step.Ticked.Ticked, trace.Span.Span}
-use Rattle.machine.specs.{Ticks.lastTime, Ticks.allComplete, Ticks.machineCheck, Ticks.stateCheck, Ticks.tickOf, Ticks.stepOf, Runs.after, Runs.entry, Runs.completion, Runs.finish, Runs.completions, Runs.traced}
+use Rattle.machine.specs.{Ticks.lastTime, Ticks.allComplete, Ticks.machineCheck, Ticks.stateCheck, Ticks.tickOf, Ticks.stepOf, Events.isEvent, Runs.after, Runs.entry, Runs.completion, Runs.finish, Runs.completions, Runs.stepsOf, Runs.traced}
 
 -- The entry of tick n, read from spans: the job whose span holds it, or idle.
 unfoldable pub spanEntry : List Span → ℕ → Entry
@@ -63,6 +63,10 @@ pub record Claims (js : List Job) (times : List ℕ) : Type 0 where
   pub trace-gives-back : (n : ℕ) → n < lastTime → spanEntry (traced js times) n ≡ entry (tableOf js) times n
   -- The trace has at most twice as many entries as there are jobs.
   pub trace-within-twice : length (traced js times) ≤ 2 * length js
+  -- The run has at most as many steps.
+  pub steps-within-twice : stepsOf (tableOf js) times ≤ 2 * length js
+  -- No job is released or completes after the end of the run, so that the steps leave no event out.
+  pub events-by-the-end : (n : ℕ) → isEvent (tableOf js) (λ u. completion (tableOf js) times u lastTime) n ≡ true → n ≤ finish (tableOf js) times .time
 
 -- They hold of every set and running times that pass the checks 4 to 8.
 abbrev pub EveryMachine : Type 0

@@ -1,4 +1,5 @@
 pub mod Order
 pub mod Ticks
+pub mod Events
 pub mod Runs
 pub mod Claims

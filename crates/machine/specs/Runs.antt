@@ -1,10 +1,10 @@
--- The run from time 0 and its trace. Document 01, "The machine", and number 9. Assumes nothing.
+-- The run from time 0, its steps from event to event, and its trace. Document 01, "The machine", and number 9; document 02, R-7. Assumes nothing.
 use Rattle.laws.specs.Words.{ℕ, zero, suc, _*_, cond, _&&_, List, [], _∷_, _++_, leb, eqb, length, replicate, tabulate, patched}
 use Rattle.jobs.specs.declared.{job.Job.Job, refusal.Refusal.Refusal, refusal.Check.Check}
 use Rattle.jobs.specs.{Limits.maxJobs, Refusals.onPass, Refusals.unless, Refusals.andThen, Jobs.jobAt}
 use Rattle.theory.specs.{Table.Table, Table.tableOf, Runs.Entry, Runs.names, Runs.idle, Runs.runs}
 use Rattle.machine.specs.declared.{state.State.State, run.Completed.Completed, trace.Span.Span, trace.Traced.Traced}
-use Rattle.machine.specs.{Ticks.lastTime, Ticks.start, Ticks.machineCheck, Ticks.pick, Ticks.next}
+use Rattle.machine.specs.{Ticks.lastTime, Ticks.start, Ticks.machineCheck, Ticks.pick, Ticks.next, Events.events}
 
 -- The state after n ticks.
 unfoldable pub after : Table → List ℕ → ℕ → State
@@ -30,7 +30,11 @@ finish t times = after t times lastTime
 unfoldable pub completions : Table → List ℕ → List ℕ
 completions t times = tabulate 0 maxJobs (λ u. completion t times u lastTime)
 
--- The answer of a run: each job's completion and the time at which all are complete, or the refusal with all figures 0.
+-- The steps of a run from event to event: one for each different time after 0 at which a job is released or completes.
+abbrev pub stepsOf : Table → List ℕ → ℕ
+stepsOf t times = events t (λ u. completion t times u lastTime) lastTime
+
+-- The answer of a run: each job's completion, the time at which all are complete and the steps from event to event, or the refusal with all figures 0.
 unfoldable pub runOf : List Job → List ℕ → Completed
 runOf js times =
     let check = machineCheck js times in
@@ -38,6 +42,7 @@ runOf js times =
       check = check;
       completions = onPass check (λ refusal. replicate maxJobs 0) (completions (tableOf js) times);
       end = onPass check (λ refusal. 0) (finish (tableOf js) times .time);
+      steps = onPass check (λ refusal. 0) (stepsOf (tableOf js) times);
     }
 
 -- Spans, the latest first, after tick n: the job that ran lengthens the latest where that is its own and ends at n, or begins a new one.
@@ -71,9 +76,9 @@ traceCheck js times room = andThen (machineCheck js times) (unless (leb (8 * len
 abbrev pub traced : List Job → List ℕ → List Span
 traced js times = spans (tableOf js) times lastTime
 
--- The answer of a trace: how many entries it has, or the refusal.
+-- The answer of a trace: how many entries it has and the steps of its run, or the refusal.
 unfoldable pub traceOf : List Job → List ℕ → ℕ → Traced
-traceOf js times room = onPass (traceCheck js times room) Traced.Refused (Traced.Entries (length (traced js times)))
+traceOf js times room = onPass (traceCheck js times room) Traced.Refused (Traced.Entries (length (traced js times)) (stepsOf (tableOf js) times))
 
 -- What a trace leaves in the lent buffer: its rows from the start on and what it held beyond, or on a refusal all as it was.
 unfoldable pub tracedIn : List Job → List ℕ → List ℕ → List ℕ

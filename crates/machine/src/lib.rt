@@ -1,7 +1,7 @@
 // The machine that runs the jobs of a set tick by tick, by the priority rule.
 mod check;
 mod columns;
-mod idle;
+mod leg;
 pub mod pick;
 pub mod rank;
 mod ready;

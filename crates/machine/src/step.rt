@@ -41,7 +41,7 @@ fn advance<'a>(state: State, set: JobSet, columns: &'a Columns, times: &'a [u64]
     let best = best_of(set.count, columns, times, &work, &completions, time);
     if best.found {
         let at = best.at;
-        work_on(at, times, time, &mut work, &mut completions);
+        work_on(at, 1, times, time, &mut work, &mut completions);
         return Stepped {
             ticked: Ticked::Ran {
                 chain: set.jobs[at].chain,

@@ -6,7 +6,8 @@ use Rattle.theory.specs.Table.{tableOf}
 use Rattle.machine.specs.Ticks.{lastTime}
 use Rattle.machine.specs.Runs.{traced}
 use Rattle.machine.proofs.RunningTimes.{set-passed}
-use Rattle.machine.proofs.Running.{lastRelease, few-jobs, released-by}
+use Rattle.theory.proofs.Runnable.{lastRelease}
+use Rattle.machine.proofs.Runnable.{runnable}
 use Rattle.machine.proofs.SpanOrder.{spans-ordered, spans-within}
 use Rattle.machine.proofs.SpanTimes.{spans-ended}
 use Rattle.machine.proofs.MostTimes.{most-passed}
@@ -23,14 +24,13 @@ pub every-trace : EveryTrace
 every-trace js times passed =
     let t = tableOf js in
     let machine = Machine·claims js times passed in
-    let few = few-jobs js times passed in
+    let runs = runnable js times passed in
     let rows = rowsTraced (traced js times) in
     let order = traced-order (traced js times) (spans-ordered t times lastTime) in
-    let released = released-by js times passed in
-    let complete = traced-complete t times lastRelease few released lastTime (machine .machine-legal (endOf rows)) (machine .run-ends .1) in
+    let complete = traced-complete t times lastRelease (runs .few) (runs .released) lastTime (machine .machine-legal (endOf rows)) (machine .run-ends .1) in
     record {
       ordered = order;
-      few = omega (arith, traced-length (traced js times), machine .trace-within-twice, few);
+      few = omega (arith, traced-length (traced js times), machine .trace-within-twice, runs .few);
       inside = λ i l. traced-told (length js) lastTime (traced js times) (spans-within t times lastTime) (spans-ended t times lastTime) i l .at;
       is-legal = every-recording js (set-passed js times passed) rows order .legal-some .1 (t .earliest, times, complete);
     }

@@ -14,10 +14,11 @@ use Rattle.jobs.specs.Limits.{maxJobs}
 use Rattle.jobs.specs.Jobs.{mostTimes}
 use Rattle.jobs.specs.Checks.{checkOf}
 use Rattle.jobs.proofs.Accepted.{accepted}
+use Rattle.theory.specs.Table.{tableOf}
 use Rattle.machine.specs.declared.trace.Span.{Span}
 use Rattle.machine.specs.declared.trace.Traced.{Traced}
 use Rattle.machine.specs.declared.trace.Traced.the-variants.{Entries, Refused as RefusedTrace}
-use Rattle.machine.specs.Runs.{row, rows, traced, traceOf, tracedIn}
+use Rattle.machine.specs.Runs.{stepsOf, row, rows, traced, traceOf, tracedIn}
 use Rattle.machine.proofs.Tracing.{rows-length, trace-written, traced-length}
 use Rattle.machine.proofs.MostTimes.{most-passed}
 use Rattle.machine.proofs.Claims.{claims}
@@ -58,12 +59,12 @@ rows-text js ss buffer = rw (patched-start buffer (rows js ss)) (entries-spans j
 
 -- ---- the machine's answer
 abbrev countOf : Traced → ℕ
-countOf (Entries n) = n
+countOf (Entries n steps) = n
 countOf (RefusedTrace r) = 0
 
 -- the machine has left the trace of the run with all most times
 pub record Ran (js : List Job) (answer : Traced) (numbers : List ℕ) : Type 0 where
-  pub count : answer ≡ Entries (length (traced js (mostTimes js)))
+  pub count : answer ≡ Entries (length (traced js (mostTimes js))) (stepsOf (tableOf js) (mostTimes js))
   pub few : length (traced js (mostTimes js)) ≤ 2 * maxJobs
   pub room : 4 * length (traced js (mostTimes js)) ≤ length numbers
   pub text : entriesText numbers (length (traced js (mostTimes js))) ≡ entriesText (rows js (traced js (mostTimes js))) (length (traced js (mostTimes js)))
@@ -89,10 +90,10 @@ module _ {js : List Job} {answer : Traced} {numbers : List ℕ} (ran : Ran js an
   pub ran-not-refused : (r : Refusal) → answer ≡ RefusedTrace r → ⊥
   ran-not-refused r e = entries-not (sym (ran .count) ∙ e)
     where
-      entries-not : {n : ℕ} → Entries n ≡ RefusedTrace r → ⊥
+      entries-not : {n steps : ℕ} → Entries n steps ≡ RefusedTrace r → ⊥
       entries-not q = let z : _≡_ {A = ℕ} 0 1 = cc in omega arith
 
-  module _ (n : ℕ) (e : answer ≡ Entries n) where
+  module _ (n steps : ℕ) (e : answer ≡ Entries n steps) where
     count-is : n ≡ length (traced js (mostTimes js))
     count-is = ap countOf (sym e ∙ ran .count)
 

@@ -43,7 +43,7 @@ fn trace_set(set: JobSet, out: &mut [u8]) -> Written
     let count = set.count;
     match trace(set, &most[..count], &mut numbers) {
         Traced::Refused(refusal) => Written::Refused(refusal),
-        Traced::Entries(entries) => write_trace(&numbers, entries, out),
+        Traced::Entries { entries, .. } => write_trace(&numbers, entries, out),
     }
 }
 

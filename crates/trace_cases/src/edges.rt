@@ -16,8 +16,8 @@ fn print_traced(set: JobSet, times: &[u64], numbers: &mut [u64]) {
     print(b" numbers ");
     match trace(set, times, numbers) {
         Traced::Refused(refusal) => print_refused(refusal),
-        Traced::Entries(count) => {
-            print_number(count as u64);
+        Traced::Entries { entries, .. } => {
+            print_number(entries as u64);
             print(b" entries");
         }
     }

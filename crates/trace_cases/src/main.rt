@@ -1,5 +1,5 @@
 // Prints one line for each case named as an argument: its name, and what the machine makes of the table kept under it.
-//   trace/NAME   the entries of the run with all most times, and its end
+//   trace/NAME   the entries of the run with all most times, its end, and its steps from event to event
 //   edge/NAME    the trace with a buffer one number short, and with one just long enough
 mod edges;
 mod print;

@@ -1,4 +1,4 @@
-// Runs with all most times: the trace, and the end.
+// Runs with all most times: the trace, the end, and the steps from event to event.
 use crate::print::print;
 use crate::print::print_column;
 use crate::print::print_number;
@@ -37,11 +37,13 @@ fn print_run(set: JobSet, times: &[u64], numbers: &mut [u64]) {
             print(b" ");
             print_refused(refusal);
         }
-        Traced::Entries(count) => {
-            print_entries(numbers, count);
+        Traced::Entries { entries, steps } => {
+            print_entries(numbers, entries);
             let completed = run(set, times);
             print(b", end ");
             print_number(completed.end);
+            print(b", steps ");
+            print_number(steps);
         }
     }
 }

@@ -13,10 +13,11 @@ use Rattle.jobs.specs.declared.refusal.Check.the-variants.{Passed, Refused}
 use Rattle.jobs.specs.Limits.{maxJobs}
 use Rattle.jobs.specs.Jobs.{mostTimes}
 use Rattle.jobs.specs.Checks.{checkOf}
+use Rattle.theory.specs.Table.{tableOf}
 use Rattle.machine.specs.declared.trace.Traced.{Traced}
 use Rattle.machine.specs.declared.trace.Traced.the-variants.{Entries, Refused as RefusedTrace}
 use Rattle.machine.specs.Ticks.{machineCheck}
-use Rattle.machine.specs.Runs.{rows, traceCheck, traced, traceOf, tracedIn}
+use Rattle.machine.specs.Runs.{stepsOf, rows, traceCheck, traced, traceOf, tracedIn}
 use Rattle.machine.proofs.MostTimes.{most-passed}
 use Rattle.machine.proofs.RunningTimes.{set-accepted}
 use Rattle.machine.proofs.Tracing.{trace-written, traced-length}
@@ -38,7 +39,7 @@ pub record Entered (js : List Job) (times numbers : List ℕ) (n : ℕ) : Type 0
 module _ (js : List Job) (times buffer : List ℕ) (room : 8 * maxJobs ≤ length buffer) where
   -- where the machine passes running times, it has room for their trace
   trace-there : machineCheck js times ≡ Passed
-      → (traceOf js times (length buffer) ≡ Entries (length (traced js times))) × (tracedIn js times buffer ≡ patched buffer 0 (rows js (traced js times)))
+      → (traceOf js times (length buffer) ≡ Entries (length (traced js times)) (stepsOf (tableOf js) times)) × (tracedIn js times buffer ≡ patched buffer 0 (rows js (traced js times)))
   trace-there passed = trace-written js times buffer passed (omega (arith, set-accepted js times passed .few))
 
   -- a refusal is that of the set or of the running times, since there is room
@@ -47,10 +48,10 @@ module _ (js : List Job) (times buffer : List ℕ) (room : 8 * maxJobs ≤ lengt
   refused-by refusal told Passed e = let z : _≡_ {A = ℕ} 0 1 = cc (told, trace-there e .0) in absurd (omega arith)
   refused-by refusal told (Refused other) e = cc (rw e at told)
 
-  entries-by : (n : ℕ) → traceOf js times (length buffer) ≡ Entries n → (c : Check) → machineCheck js times ≡ c → c ≡ Passed
+  entries-by : (n steps : ℕ) → traceOf js times (length buffer) ≡ Entries n steps → (c : Check) → machineCheck js times ≡ c → c ≡ Passed
   unfolding traceOf traceCheck
-  entries-by n told Passed e = refl
-  entries-by n told (Refused other) e = let z : _≡_ {A = ℕ} 0 1 = cc (rw e at told) in absurd (omega arith)
+  entries-by n steps told Passed e = refl
+  entries-by n steps told (Refused other) e = let z : _≡_ {A = ℕ} 0 1 = cc (rw e at told) in absurd (omega arith)
 
   module _ {answer : Traced} {numbers : List ℕ} (left : (answer ≡ traceOf js times (length buffer)) × (numbers ≡ tracedIn js times buffer)) where
     pub waveform-refused : (refusal : Refusal) → answer ≡ RefusedTrace refusal → (out : List ℕ)
@@ -60,10 +61,10 @@ module _ (js : List Job) (times buffer : List ℕ) (room : 8 * maxJobs ≤ lengt
         let check = refused-by refusal (sym (left .0) ∙ e) (machineCheck js times) refl in
         (rw check, rw check)
 
-    pub entered : (n : ℕ) → answer ≡ Entries n → Entered js times numbers n
-    entered n e =
+    pub entered : (n steps : ℕ) → answer ≡ Entries n steps → Entered js times numbers n
+    entered n steps e =
         let told = sym (left .0) ∙ e in
-        let passed = entries-by n told (machineCheck js times) refl in
+        let passed = entries-by n steps told (machineCheck js times) refl in
         let there = trace-there passed in
         let count : n ≡ length (traced js times) = cc (told, there .0) in
         let is : numbers ≡ patched buffer 0 (rows js (traced js times)) = left .1 ∙ there .1 in

@@ -40,7 +40,7 @@ pub fn write_waveform(set: JobSet, times: &[u64], out: &mut [u8]) -> Written
     let mut numbers = [0u64; MAX_NUMBERS];
     match trace(set, times, &mut numbers) {
         Traced::Refused(refusal) => Written::Refused(refusal),
-        Traced::Entries(entries) => write_dump(set, &numbers, entries, out),
+        Traced::Entries { entries, .. } => write_dump(set, &numbers, entries, out),
     }
 }
 

@@ -36,11 +36,14 @@ fn steps(jobs: u64, chains: u64, rounds: u64) -> u64 {
     jobs * jobs + (rounds + 1) * pairs * jobs
 }
 
-/// The least time of a call over many short batches, in nanoseconds.
+/// The least time of a call over many short batches, in nanoseconds; a call of more than a second is timed once.
 fn time(mut call: impl FnMut()) -> f64 {
     let start = Instant::now();
     call();
     let once = start.elapsed().as_nanos().max(1) as u64;
+    if once > 1_000_000_000 {
+        return once as f64;
+    }
     let calls = (1_000_000 / once).clamp(1, 10_000);
     let batches = (50_000_000 / (calls * once)).clamp(5, 50);
     let mut best = f64::MAX;
@@ -104,7 +107,7 @@ fn print_bounds(jobs: u64, chains: u64, times: &[f64]) {
 }
 
 /// What is timed of a table written by a call, with its numbers short and with them as long as can be: that, and the same of the plain reference.
-fn writing_times(jobs: u64, chains: u64) -> Vec<f64> {
+fn writing_times((jobs, chains): (u64, u64)) -> Vec<f64> {
     let numbers: [fn(Job) -> Job; 2] = [
         |j| Job { release: 0, priority: 0, least: 1, most: 1, deadline: 9, ..j },
         |j| Job { release: 1_000_000_000, priority: 255, least: 1_000_000, most: 1_000_000, deadline: 4_000_000_000, ..j },
@@ -125,28 +128,62 @@ fn writing_times(jobs: u64, chains: u64) -> Vec<f64> {
     numbers.map(measure).concat()
 }
 
-/// What is timed of runs: a busy tick, an idle one, and a busy one of the plain reference.
-fn tick_times(jobs: u64, chains: u64) -> Vec<f64> {
-    let mut buffer = vec![0u8; 4_096];
-    let busy = run_load(jobs, chains, 0, 1_000);
-    let idle = run_load(jobs, chains, 100_000, 1);
-    let mut trace = |set: &[Job], ticks: u64| {
-        let table = table_text(set);
-        let all = time(|| {
-            black_box(cudlomer::trace(black_box(&table), &mut buffer).unwrap());
-        });
-        all / ticks as f64
-    };
-    let times = [trace(&busy, jobs * 1_000), trace(&idle, 100_000 + jobs)];
-    let most: Vec<u64> = busy.iter().map(|j| j.most).collect();
-    let plain = time(|| {
-        black_box(machine::trace(black_box(&busy), &most));
+/// P1 of the scope.
+fn p1() -> Vec<Job> {
+    table::read(include_bytes!("../../../examples/p1.csv")).unwrap()
+}
+
+/// What is timed of a trace by a call, which checks the set and the times: that, and one of the plain reference.
+fn trace_times(load: fn() -> Vec<Job>) -> Vec<f64> {
+    let jobs = load();
+    let set = Set::read(&table_text(&jobs)).unwrap();
+    let times = set.times(|j| j.most);
+    let called = time(|| {
+        black_box(set.trace(black_box(&times)).unwrap());
     });
-    vec![times[0], times[1], plain / (jobs * 1_000) as f64]
+    let most: Vec<u64> = times.iter().collect();
+    let plain = time(|| {
+        machine::check(black_box(&jobs), &most).unwrap();
+        black_box(machine::trace(&jobs, &most));
+    });
+    vec![called, plain]
+}
+
+fn print_traces() {
+    let loads: [(&str, fn() -> Vec<Job>); 4] = [
+        ("P1", p1),
+        (" 8 jobs, 2 chains", || load(8, 2)),
+        ("64 jobs, 8 chains", || load(64, 8)),
+        ("64 jobs, 16 chains, a tick each", || run_load(64, 16, 0, 1)),
+    ];
+    println!("  us: a trace by a call, which checks the set and the times: the part, the plain reference, ratio");
+    for ((name, _), times) in loads.iter().zip(&least(trace_times, &loads.map(|(_, load)| load))) {
+        println!("{name}: {:6.2} {:6.2} {:5.2}", times[0] / 1_000.0, times[1] / 1_000.0, times[0] / times[1]);
+    }
+}
+
+/// A trace of so many long jobs, and the ticks that lead to the same: some of them are timed, from the start on, and taken for all.
+fn print_long_trace(jobs: u64, chains: u64) {
+    const MOST: u64 = 1_000_000;
+    const TICKS: u64 = 20_000;
+    let set = Set::read(&table_text(&run_load(jobs, chains, 0, MOST))).unwrap();
+    let times = set.times(|j| j.most);
+    let traced = time(|| {
+        black_box(set.trace(black_box(&times)).unwrap());
+    });
+    let ticked = time(|| {
+        let mut state = State::START;
+        for _ in 0..TICKS {
+            black_box(set.tick(&times, &mut state).unwrap());
+        }
+    });
+    let all = ticked / TICKS as f64 * (jobs * MOST) as f64;
+    println!("  us: a trace of jobs of {MOST} ticks by a call: the trace, all its ticks by calls, how many times as long these are");
+    println!("{jobs:2} jobs, {chains} chains: {:.1} {:.0} {:.0}", traced / 1_000.0, all / 1_000.0, all / traced);
 }
 
 /// What is timed of a run that a caller ticks through, the set being checked at each tick: a tick, and one of the plain reference.
-fn call_times(jobs: u64, chains: u64) -> Vec<f64> {
+fn call_times((jobs, chains): (u64, u64)) -> Vec<f64> {
     const MOST: u64 = 20;
     let busy = run_load(jobs, chains, 0, MOST);
     let set = Set::read(&table_text(&busy)).unwrap();
@@ -189,7 +226,7 @@ fn middle(jobs: &[Job], per: u64) -> State {
 }
 
 /// What is timed of a tick by a call in such a state, where all jobs are equals and where no two are: that, and one of the plain reference.
-fn middle_times(jobs: u64, chains: u64) -> Vec<f64> {
+fn middle_times((jobs, chains): (u64, u64)) -> Vec<f64> {
     const TICKS: u64 = 500;
     let priorities: [fn(u64) -> u64; 2] = [|_| 1, |place| place];
     let measure = |priority| {
@@ -217,7 +254,7 @@ fn middle_times(jobs: u64, chains: u64) -> Vec<f64> {
 }
 
 /// What is timed of the blocks of a set by ERT, CJA and ITR, the set being checked and its bounds worked out: that, and the same of the plain reference.
-fn blocks_times(jobs: u64, chains: u64) -> Vec<f64> {
+fn blocks_times((jobs, chains): (u64, u64)) -> Vec<f64> {
     let jobs = load(jobs, chains);
     let held = Set::read(&table_text(&jobs)).unwrap();
     let measure = |algorithm| {
@@ -254,7 +291,7 @@ fn by_turns(jobs: &[Job], chains: u64) -> Vec<Span> {
 
 /// What is timed of the comparison of two recordings with the most rows, both legal, in which the last two jobs go in either order: that, and one of
 /// the plain reference, which goes from tick to tick.
-fn recordings_times(jobs: u64, chains: u64) -> Vec<f64> {
+fn recordings_times((jobs, chains): (u64, u64)) -> Vec<f64> {
     let jobs = equals_load(jobs, chains);
     let held = Set::read(&table_text(&jobs)).unwrap();
     let rows = by_turns(&jobs, chains);
@@ -274,11 +311,11 @@ fn recordings_times(jobs: u64, chains: u64) -> Vec<f64> {
 }
 
 /// The least of each time over some passes, since a machine that others use is slow for seconds on end.
-fn least(measure: impl Fn(u64, u64) -> Vec<f64>, loads: &[(u64, u64)]) -> Vec<Vec<f64>> {
+fn least<Load: Copy>(measure: impl Fn(Load) -> Vec<f64>, loads: &[Load]) -> Vec<Vec<f64>> {
     let mut best: Vec<Vec<f64>> = vec![];
     for pass in 0..PASSES {
-        for (i, &(jobs, chains)) in loads.iter().enumerate() {
-            let times = measure(jobs, chains);
+        for (i, &load) in loads.iter().enumerate() {
+            let times = measure(load);
             if pass == 0 {
                 best.push(times);
             } else {
@@ -296,7 +333,7 @@ const LOADS: [(u64, u64); 8] = [(8, 2), (16, 2), (32, 2), (64, 2), (8, 8), (16, 
 
 fn main() {
     println!("  ns: reading, ratio | ERT, CJA, ITR | what the three calls make once, a step, a step with that | bounds with text, ratio");
-    let times = least(|jobs, chains| bounds_times(&table_text(&load(jobs, chains))), &LOADS);
+    let times = least(|(jobs, chains)| bounds_times(&table_text(&load(jobs, chains))), &LOADS);
     for (&(jobs, chains), times) in LOADS.iter().zip(&times) {
         print_bounds(jobs, chains, times);
     }
@@ -306,11 +343,9 @@ fn main() {
         let [short, plain_short, long, plain_long] = times[..] else { unreachable!() };
         println!("{jobs:2} jobs, {chains} chains: {short:6.0} {:5.2} | {long:6.0} {:5.2}", short / plain_short, long / plain_long);
     }
-    println!("  ns a tick: busy, ratio | idle");
+    print_traces();
+    print_long_trace(64, 8);
     let loads = [(6, 2), (64, 8)];
-    for ((jobs, chains), times) in loads.iter().zip(&least(tick_times, &loads)) {
-        println!("{jobs:2} jobs, {chains} chains: {:6.1} {:5.2} | {:6.1}", times[0], times[0] / times[2], times[1]);
-    }
     println!("  ns a tick by a call, which checks the set, the times and the state: the part, the plain reference, ratio");
     for ((jobs, chains), times) in loads.iter().zip(&least(call_times, &loads)) {
         println!("{jobs:2} jobs, {chains} chains: {:6.1} {:6.1} {:5.2}", times[0], times[1], times[0] / times[1]);

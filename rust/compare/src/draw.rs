@@ -103,6 +103,19 @@ impl Draw {
         jobs
     }
 
+    /// 64 jobs of up to a million ticks in chains of one length, all released at 0, or while others run, or over all the time that there is. All
+    /// figures are multiples of one unit, so that releases and completions meet.
+    pub fn long_jobs(&mut self) -> Vec<Job> {
+        const UNIT: u64 = 100_000;
+        let (per, last) = (64u64 >> self.range(0, 4), [0, 100, 400, 10_000][self.range(0, 3) as usize]);
+        let job = |place| {
+            let (release, priority, most) = (UNIT * self.range(0, last), self.range(0, 5), self.range(1, 10));
+            let least = UNIT * self.range(1, most);
+            Job { chain: 1 + place / per, job: 1 + place % per, release, priority, least, most: UNIT * most, deadline: 0 }
+        };
+        (0..64).map(job).collect()
+    }
+
     /// A few jobs to join as a chain, whose own chain and job numbers are anything.
     pub fn chain(&mut self, kind: Kind) -> Vec<Job> {
         let count = self.range(1, 5) as usize;

@@ -4,6 +4,7 @@ mod admission;
 mod blocks;
 mod damage;
 mod draw;
+mod engine;
 mod faults;
 mod machine;
 mod recordings;
@@ -17,13 +18,7 @@ mod waveform;
 mod wrapper;
 
 use draw::{Draw, Kind};
-use reference::Job;
 use tally::Tally;
-
-/// Whether so little work is to be done that going through it tick by tick takes little time; idle time is passed over.
-fn is_short(jobs: &[Job]) -> bool {
-    jobs.iter().map(|j| j.most).sum::<u64>() <= 100_000
-}
 
 fn main() {
     let mut tally = Tally::default();
@@ -37,9 +32,11 @@ fn main() {
             sets::compare(&mut tally, &mut draw, &jobs);
             admission::compare(&mut tally, &mut draw, kind, &jobs);
             machine::compare(&mut tally, &mut draw, &jobs);
+            engine::compare(&mut tally, &mut draw, &jobs);
             wrapper::compare(&mut tally, &mut draw, kind, &jobs);
         }
     }
+    engine::compare_drawn(&mut tally, &mut draw);
     recordings::compare(&mut tally, &mut draw);
     if !tally.close() {
         std::process::exit(1);

@@ -2,11 +2,12 @@
 //! there may be, of late times, and of damaged ones.
 
 use crate::draw::Draw;
+use crate::engine;
 use crate::runs::{rows_of, Entries};
 use crate::side::{jobs_of, numbers_of, Pair, PART};
 use crate::tally::Tally;
 use crate::wrapper;
-use cudlomer::{Set, Trace};
+use cudlomer::Set;
 use reference::machine::Span;
 use reference::{recording, set, text, Job};
 
@@ -22,7 +23,7 @@ const TICKS: u32 = 6;
 const LATEST: u64 = 100_000;
 
 /// So many numbers is a comparison.
-const NUMBERS: usize = 4;
+pub const NUMBERS: usize = 4;
 
 /// A job that runs for a tick or longer, from the start on.
 const JOB: Job = Job { chain: 1, job: 1, release: 0, priority: 1, least: 1, most: 1_000_000, deadline: 0 };
@@ -99,11 +100,8 @@ fn compare_runs(tally: &mut Tally, draw: &mut Draw, jobs: &[Job]) {
 }
 
 /// The recording of the machine's run with these times, by the part.
-fn machine(numbers: &[u64], times: &[u64]) -> Vec<u8> {
-    let mut out = [0; 4 * Trace::MAX_ROWS];
-    let count = (PART.set_trace)(numbers, times, &mut out).unwrap_or(0) as usize;
-    let rows: Vec<Span> = out.chunks(4).take(count).map(|row| Span { chain: row[0], job: row[1], from: row[2], to: row[3] }).collect();
-    text::rows_text(&rows).into_bytes()
+pub fn machine(numbers: &[u64], times: &[u64]) -> Vec<u8> {
+    text::rows_text(&engine::traced(numbers, times)).into_bytes()
 }
 
 /// Every recording of a few ticks, each beside the one before it.

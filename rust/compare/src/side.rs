@@ -41,6 +41,7 @@ pub struct Side {
     pub set_tick: fn(&[u64], &[u64], &mut [u64]) -> Answer,
     pub set_run: fn(&[u64], &[u64], &mut [u64]) -> Answer,
     pub set_trace: fn(&[u64], &[u64], &mut [u64]) -> Answer,
+    pub set_steps: fn(&[u64], &[u64]) -> Answer,
     pub set_waveform: fn(&[u64], &[u64], &mut [u8]) -> Answer,
     pub set_compare: fn(&[u64], Pair, &mut [u64]) -> Answer,
 }

@@ -1,9 +1,9 @@
 //! Waveforms, of running times that are right or damaged, and what a reader of dumps makes of them.
 
+use crate::engine;
 use crate::side::{numbers_of, PART, WANTED};
 use crate::tally::Tally;
-use cudlomer::{Set, Trace};
-use reference::machine::Span;
+use cudlomer::Set;
 use reference::{dump, Job};
 
 /// The dump in buffers around its length, and read back where there is one.
@@ -18,12 +18,10 @@ pub fn compare(tally: &mut Tally, numbers: &[u64], times: &[u64]) {
 
 /// The dump that the part writes is read as the rows of the trace that it writes.
 fn compare_read_back(tally: &mut Tally, numbers: &[u64], times: &[u64]) {
-    let (mut text, mut rows) = ([0; Set::MAX_WAVEFORM], [0; 4 * Trace::MAX_ROWS]);
+    let mut text = [0; Set::MAX_WAVEFORM];
     let written = (PART.set_waveform)(numbers, times, &mut text).unwrap_or(0) as usize;
-    let count = (PART.set_trace)(numbers, times, &mut rows).unwrap_or(0) as usize;
-    let row = |s: Span| [s.chain, s.job, s.from, s.to];
-    let read = dump::spans(&String::from_utf8_lossy(&text[..written])).map(|spans| spans.into_iter().flat_map(row).collect());
-    tally.same("waveform read back", &(numbers, times), read, Some(rows[..4 * count].to_vec()));
+    let read = dump::spans(&String::from_utf8_lossy(&text[..written]));
+    tally.same("waveform read back", &(numbers, times), read, Some(engine::traced(numbers, times)));
 }
 
 /// A dump that is longer than any other text of the part may be.

@@ -1,7 +1,7 @@
 //! The safe wrapper's sets and functions on texts beside the reference, and its refusals.
 
 use crate::draw::{Draw, Kind};
-use crate::is_short;
+use crate::engine::TICKS;
 use crate::tally::Tally;
 use cudlomer::{Algorithm, Delays, Job, Refused, Set, State, Ticked, Times, Verdict};
 use reference::{blocks, bounds, machine, set, text, waveform};
@@ -13,12 +13,11 @@ pub fn compare(tally: &mut Tally, draw: &mut Draw, kind: Kind, jobs: &[reference
     compare_texts(tally, jobs);
     compare_figures(tally, &set, jobs);
     compare_admission(tally, &set, jobs, &draw.chain(kind));
-    if is_short(jobs) {
-        let most: Vec<u64> = jobs.iter().map(|j| j.most).collect();
-        compare_run(tally, &set, jobs, &most);
-    }
+    let most: Vec<u64> = jobs.iter().map(|j| j.most).collect();
+    compare_run(tally, &set, jobs, &most);
     tally.same("Set::of", &jobs, Set::of(&own[1..]), Err(Refused(if own.len() == 1 { 7 } else { 5 })));
     tally.same("Set::run", &jobs, set.run(&set.times(|j| j.most + 1)), Err(Refused(8)));
+    tally.same("Set::steps", &jobs, set.steps(&set.times(|j| j.least - 1)), Err(Refused(8)));
 }
 
 pub fn job(j: &reference::Job) -> Job {
@@ -50,10 +49,8 @@ fn compare_texts(tally: &mut Tally, jobs: &[reference::Job]) {
     let mut out = [0; Set::MAX_TEXT];
     let written = cudlomer::bounds(&table, &mut out).map(|bytes| out[..bytes].to_vec());
     tally.same("bounds", &jobs, written, Ok(text::bounds_text(jobs).into_bytes()));
-    if is_short(jobs) {
-        let written = cudlomer::trace(&table, &mut out).map(|bytes| out[..bytes].to_vec());
-        tally.same("trace", &jobs, written, Ok(text::trace_text(jobs).into_bytes()));
-    }
+    let written = cudlomer::trace(&table, &mut out).map(|bytes| out[..bytes].to_vec());
+    tally.same("trace", &jobs, written, Ok(text::trace_text(jobs).into_bytes()));
     for algorithm in 0..=4 {
         tally.same("verdict", &jobs, said(cudlomer::verdict(&table, algorithm)), bounds::verdict(jobs, algorithm.into()));
     }
@@ -87,7 +84,7 @@ fn compare_admission(tally: &mut Tally, held: &Set, jobs: &[reference::Job], cha
     tally.same("Set::admit", &(jobs, chain), answer, wanted.map(|set| set.is_some()));
 }
 
-/// The run as a whole, its trace, its waveform, and the ticks that lead to the same end.
+/// The run as a whole, its trace, its steps, its waveform, and the ticks that lead to the same end, where they are few.
 fn compare_run(tally: &mut Tally, set: &Set, jobs: &[reference::Job], most: &[u64]) {
     let times = set.times(|j| j.most);
     let run = set.run(&times).unwrap();
@@ -95,10 +92,11 @@ fn compare_run(tally: &mut Tally, set: &Set, jobs: &[reference::Job], most: &[u6
     let rows: Vec<[u64; 4]> = set.trace(&times).unwrap().rows().iter().map(|r| [r.chain, r.job, r.from, r.to]).collect();
     let spans: Vec<[u64; 4]> = machine::trace(jobs, most).iter().map(|s| [s.chain, s.job, s.from, s.to]).collect();
     tally.same("Set::trace", &jobs, rows, spans);
+    tally.same("Set::steps", &jobs, set.steps(&times), Ok(machine::steps(jobs, most) as u64));
     let mut out = [0; Set::MAX_WAVEFORM];
     let written = set.waveform(&times, &mut out).map(|bytes| out[..bytes].to_vec());
     tally.same("Set::waveform", &jobs, written, Ok(waveform::waveform_text(jobs, most).into_bytes()));
-    if run.end > 5_000 {
+    if run.end > TICKS {
         return;
     }
     let mut state = State::START;

@@ -23,6 +23,7 @@ extern "C" {
     ) -> i64;
     pub fn cudlomer_set_run(jobs: *const u64, jobs_length: usize, times: *const u64, times_length: usize, out: *mut u64, out_length: usize) -> i64;
     pub fn cudlomer_set_trace(jobs: *const u64, jobs_length: usize, times: *const u64, times_length: usize, out: *mut u64, out_length: usize) -> i64;
+    pub fn cudlomer_set_steps(jobs: *const u64, jobs_length: usize, times: *const u64, times_length: usize) -> i64;
     pub fn cudlomer_set_waveform(
         jobs: *const u64,
         jobs_length: usize,

@@ -160,7 +160,8 @@ impl Set {
         answer(ticked).map(Ticked::of)
     }
 
-    /// The run from time 0; refuses with 8 where the running times do not fit the set.
+    /// The run from time 0, which goes from one release or completion to the next, however long it is; refuses with 8 where the running times do not
+    /// fit the set.
     pub fn run(&self, times: &Times) -> Result<Run, Refused> {
         let mut completions = Times { count: self.count, ..Times::NONE };
         let out = completions.ticks.as_mut_ptr();
@@ -177,6 +178,20 @@ impl Set {
         let rows = unsafe { ffi::cudlomer_set_trace(self.numbers(), self.length(), times.ticks.as_ptr(), times.count, out, Trace::NUMBERS) };
         trace.count = counted(rows)?;
         Ok(trace)
+    }
+
+    /// How many steps the run from time 0 takes: one for each different time after 0 at which a job is released, also where it cannot run yet, or is
+    /// complete, at most twice as many as the set has jobs. Refuses with 8 where the running times do not fit the set.
+    ///
+    /// ```
+    /// # use cudlomer::{Job, Set};
+    /// let set = Set::of(&[Job { chain: 1, job: 1, release: 1_000_000_000, priority: 1, least: 3, most: 1_000_000, deadline: 0 }])?;
+    /// assert_eq!(set.steps(&set.times(|job| job.most)), Ok(2));
+    /// # Ok::<(), cudlomer::Refused>(())
+    /// ```
+    pub fn steps(&self, times: &Times) -> Result<u64, Refused> {
+        // The function reads within the set's jobs and the times.
+        answer(unsafe { ffi::cudlomer_set_steps(self.numbers(), self.length(), times.ticks.as_ptr(), times.count) })
     }
 
     /// Writes the run from time 0 into a buffer as a value change dump of IEEE 1364, in which a wire for each job is 1 while it runs, and answers how

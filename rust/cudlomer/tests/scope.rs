@@ -75,6 +75,30 @@ fn deadlines_and_a_shorter_run_of_p4() {
     assert_eq!(set.run(&set.times(|job| job.least)).unwrap().end, 8);
 }
 
+/// The jobs of P1 are released at 0, 20, 75, 130, 30 and 60, where the one at 20 cannot run yet, and complete at 50, 60, 160, 245, 40 and 110. P4
+/// with 3 is released at 5 and complete at 8.
+#[test]
+fn steps_of_p1_and_p4() {
+    let (p1, p4) = (p1(), Set::of(&[p4(12)]).unwrap());
+    assert_eq!((p1.steps(&p1.times(|job| job.most)), p4.steps(&p4.times(|_| 3))), (Ok(10), Ok(2)));
+    let from_0 = Set::of(&[Job { release: 0, ..p4.jobs()[0] }]).unwrap();
+    assert_eq!(from_0.steps(&from_0.times(|_| 3)), Ok(1));
+    assert_eq!([2, 8].map(|time| p4.steps(&p4.times(|_| time))), [Err(Refused(8)); 2]);
+    assert_eq!((p4.steps(&p1.times(|_| 3)), Set::EMPTY.steps(&p1.times(|_| 3))), (Err(Refused(8)), Err(Refused(7))));
+}
+
+/// 64 equals of the most time, half of them in a chain that is released as late as can be: 31 and 32 releases after 0 and 64 completions, all at
+/// different times.
+#[test]
+fn steps_of_long_runs() {
+    let job = |chain, release| move |job| Job { chain, job, release, priority: 1, least: 1, most: 1_000_000, deadline: 0 };
+    let jobs: Vec<Job> = (1..=32).map(job(1, 0)).chain((1..=32).map(job(2, 1_000_000_000))).collect();
+    let set = Set::of(&jobs).unwrap();
+    let times = set.times(|job| job.most);
+    assert_eq!((set.steps(&times), set.run(&times).unwrap().end), (Ok(127), 1_032_000_000));
+    assert_eq!(set.trace(&times).unwrap().rows().len(), 64);
+}
+
 /// Two equals, of which chain 2 is ready since 0 and chain 1 since 2.
 #[test]
 fn equals_in_order_of_readiness() {

@@ -1,7 +1,9 @@
-//! The machine: at each tick the most urgent ready job runs, among equals the one ready since the earliest time, then that of the lowest chain.
+//! The machine: at each tick the most urgent ready job runs, among equals the one ready since the earliest time, then that of the lowest chain. A run
+//! goes through it tick by tick, or from one release or completion to the next.
 
 use crate::{set, Job};
 use std::cmp::Reverse;
+use std::collections::BTreeSet;
 
 /// The time, the ticks of work done of each job, and the completion of each complete one; what stands beyond the jobs means nothing.
 #[derive(Clone, Debug, PartialEq, Eq)]
@@ -56,30 +58,29 @@ pub fn tick(jobs: &[Job], times: &[u64], state: &mut State) -> Result<Ticked, u8
         return Ok(Ticked::Finished);
     }
     let picked = machine.pick(state);
-    machine.advance(state, picked);
+    machine.advance(state, picked, 1);
     Ok(picked.map_or(Ticked::Idle, |i| Ticked::Ran { chain: jobs[i].chain, job: jobs[i].job }))
 }
 
-/// The trace of the run in which each job takes the time given for it.
+/// The trace of the run in which each job takes the time given for it. What is picked at a time stays so until a job is released or complete.
 pub fn trace(jobs: &[Job], times: &[u64]) -> Vec<Span> {
     let machine = Machine::of(jobs, times);
-    let mut state = State::start(jobs.len());
-    let mut spans: Vec<Span> = Vec::new();
-    while !machine.finished(&state) {
-        let t = state.time;
-        let Some(i) = machine.pick(&state) else {
-            // nothing changes before the next release
-            state.time = machine.releases.iter().copied().filter(|r| *r > t).min().unwrap();
-            continue;
-        };
-        machine.advance(&mut state, Some(i));
-        let (chain, job) = (jobs[i].chain, jobs[i].job);
-        match spans.last_mut() {
-            Some(s) if (s.chain, s.job, s.to) == (chain, job, t) => s.to = t + 1,
-            _ => spans.push(Span { chain, job, from: t, to: t + 1 }),
-        }
-    }
-    spans
+    machine.trace(|state, picked| machine.next_event(state, picked) - state.time)
+}
+
+/// The same, tick by tick.
+pub fn trace_by_ticks(jobs: &[Job], times: &[u64]) -> Vec<Span> {
+    Machine::of(jobs, times).trace(|_, _| 1)
+}
+
+/// How many different times after 0 there are at which a job is released or complete in that run.
+pub fn steps(jobs: &[Job], times: &[u64]) -> usize {
+    events(jobs, times).into_iter().filter(|time| *time > 0).count()
+}
+
+/// The different times at which a job is released or complete in that run.
+pub fn events(jobs: &[Job], times: &[u64]) -> BTreeSet<u64> {
+    releases(jobs).into_iter().chain(completions(jobs, times)).collect()
 }
 
 /// When each job is complete in that run: at the end of its last span.
@@ -142,15 +143,38 @@ impl Machine<'_> {
         (0..self.jobs.len()).filter(|i| self.ready(state, *i)).min_by_key(order)
     }
 
-    /// A tick passes, in which the picked job runs; the tick that completes it writes when that was.
-    fn advance(&self, state: &mut State, picked: Option<usize>) {
-        state.time += 1;
+    /// So many ticks pass, in which the picked job runs; the tick that completes it writes when that was.
+    fn advance(&self, state: &mut State, picked: Option<usize>, ticks: u64) {
+        state.time += ticks;
         if let Some(i) = picked {
-            state.work[i] += 1;
+            state.work[i] += ticks;
             if self.complete(state, i) {
                 state.completions[i] = state.time;
             }
         }
+    }
+
+    /// The first release after the state's time, or the completion of the picked job where that is earlier.
+    fn next_event(&self, state: &State, picked: Option<usize>) -> u64 {
+        let completion = picked.map(|i| state.time + self.times[i] - state.work[i]);
+        self.releases.iter().copied().filter(|release| *release > state.time).chain(completion).min().unwrap()
+    }
+
+    /// The trace of the run that goes on, from each state and what is picked there, for so many ticks.
+    fn trace(&self, ticks: impl Fn(&State, Option<usize>) -> u64) -> Vec<Span> {
+        let mut state = State::start(self.jobs.len());
+        let mut spans: Vec<Span> = Vec::new();
+        while !self.finished(&state) {
+            let (from, picked) = (state.time, self.pick(&state));
+            let passed = ticks(&state, picked);
+            self.advance(&mut state, picked, passed);
+            let Some(Job { chain, job, .. }) = picked.map(|i| self.jobs[i]) else { continue };
+            match spans.last_mut() {
+                Some(s) if (s.chain, s.job, s.to) == (chain, job, from) => s.to = state.time,
+                _ => spans.push(Span { chain, job, from, to: state.time }),
+            }
+        }
+        spans
     }
 
     /// The time is within its limit, and the work of each job can be, and the completion of each complete one.
@@ -181,12 +205,13 @@ mod tests {
         Job { chain, job, release, priority, least: 1, most, deadline: 100 }
     }
 
-    /// The rows of the run with all most times, through which a run tick by tick comes to the same completions.
+    /// The rows of the run with all most times; tick by tick they are the same, and so are the completions.
     fn rows(jobs: &[Job]) -> Vec<[u64; 4]> {
         let most: Vec<u64> = jobs.iter().map(|j| j.most).collect();
         let mut state = State::start(jobs.len());
         while tick(jobs, &most, &mut state).unwrap() != Ticked::Finished {}
         assert_eq!((&state.work, &state.completions), (&most, &completions(jobs, &most)));
+        assert_eq!(trace(jobs, &most), trace_by_ticks(jobs, &most));
         trace(jobs, &most).iter().map(|s| [s.chain, s.job, s.from, s.to]).collect()
     }
 
@@ -199,6 +224,34 @@ mod tests {
         assert_eq!(state, State { time: 8, work: vec![3], completions: vec![8] });
         assert_eq!(completions(&[P4], &[3]), [8]);
         assert_eq!((check(&[P4], &[2]), check(&[P4], &[3, 3]), check(&[], &[])), (Err(8), Err(8), Err(7)));
+    }
+
+    fn steps_with_most(jobs: &[Job]) -> usize {
+        steps(jobs, &jobs.iter().map(|j| j.most).collect::<Vec<u64>>())
+    }
+
+    /// Time 0 is no step, and several events at one time are one.
+    #[test]
+    fn steps_at_different_times_after_0() {
+        assert_eq!((steps(&[P4], &[3]), steps_with_most(&[job((1, 1), 0, 1, 3)])), (2, 1));
+        let second = |release| steps_with_most(&[job((1, 1), 0, 1, 3), job((2, 1), release, 1, 2)]);
+        assert_eq!([0, 1, 3, 4].map(second), [2, 3, 2, 3]);
+    }
+
+    /// Job 2 is released at 1, and runs once job 1 is complete at 3.
+    #[test]
+    fn a_step_at_the_release_of_a_job_that_cannot_run_yet() {
+        assert_eq!(steps_with_most(&[job((1, 1), 0, 1, 3), job((1, 2), 0, 1, 2)]), 3);
+    }
+
+    /// 64 jobs of the most time, the last 32 released last of all.
+    #[test]
+    fn a_long_run() {
+        let jobs = |chain, release| (1..=32).map(move |place| job((chain, place), release, 1, 1_000_000));
+        let jobs: Vec<Job> = jobs(1, 0).chain(jobs(2, 1_000_000_000)).collect();
+        let most = [1_000_000; 64];
+        let end = trace(&jobs, &most).last().unwrap().to;
+        assert_eq!((steps(&jobs, &most), trace(&jobs, &most).len(), end), (127, 64, 1_032_000_000));
     }
 
     #[test]

@@ -63,6 +63,8 @@ pub const PART: Side = Side {
     set_tick: |jobs, times, state| on_times(ffi::cudlomer_set_tick, jobs, times, state),
     set_run: |jobs, times, out| on_times(ffi::cudlomer_set_run, jobs, times, out),
     set_trace: |jobs, times, out| on_times(ffi::cudlomer_set_trace, jobs, times, out),
+    // It reads within both slices.
+    set_steps: |jobs, times| answer(unsafe { ffi::cudlomer_set_steps(jobs.as_ptr(), jobs.len(), times.as_ptr(), times.len()) }),
     set_waveform: |jobs, times, out| on_times(ffi::cudlomer_set_waveform, jobs, times, out),
     set_compare,
 };

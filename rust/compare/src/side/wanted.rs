@@ -109,6 +109,7 @@ pub const WANTED: Side = Side {
     set_tick,
     set_run,
     set_trace,
+    set_steps: |jobs, times| Ok(machine::steps(&timed(jobs, times)?, times) as i64),
     set_waveform: |jobs, times, out| put(waveform::waveform_text(&timed(jobs, times)?, times).as_bytes(), out),
     set_compare,
 };

@@ -13,7 +13,7 @@ enum-known-traced : tie.Need-enum-known-traced
 enum-known-traced c = search needs
 
 cast-result : tie.Need-cast-result
-cast-result c = record { sfits = omega (arith, c .before .before .before .pre _ (c .before .traced .given .1)) }
+cast-result c = record { sfits = omega (arith, c .before .before .before .pre _ _ (c .before .traced .given .1)) }
 
 enum-known-traced-2 : tie.Need-enum-known-traced-2
 enum-known-traced-2 c = search needs
@@ -22,7 +22,7 @@ negated-requires : tie.Need-negated-requires
 negated-requires c κs = search needs
 
 returns : tie.Need-returns
-returns c = toZ-pos w64 {n = c .before .traced .given .0 .0} (omega (arith, c .before .before .before .pre _ (c .before .traced .given .1))) ∙ ap tracedCode (sym (c .before .traced .given .1))
+returns c = toZ-pos w64 {n = c .before .traced .given .0 .0} (omega (arith, c .before .before .before .pre _ _ (c .before .traced .given .1))) ∙ ap tracedCode (sym (c .before .traced .given .1))
 
 returns-2 : tie.Need-returns-2
 returns-2 c = handed-on (record { sfits = c .negated .ok }) (c .negated .ensures) ∙ ap tracedCode (sym (c .before .before .traced2 .given .1))

@@ -1,5 +1,5 @@
 -- `advance` meets its contract. Assumes nothing.
-use Prim.Native.Nat.{_<_, _≤_}
+use Prim.Native.Nat.{_+_, _<_, _≤_}
 use mathlib.Core.Path.{_≡_, sym, _∙_}
 use mathlib.Core.Bool.{true}
 use native.Mathlib.Omega.{arith}
@@ -40,7 +40,7 @@ module _ (c : tie.After-best-of) (f : c .best-of .result .found ≡ true) where
       (passed-within (tableOf (jobsOf (start .args .t2))) _ (start .args .state) (start .pre .1) _ (omega (arith, inside, length-jobs (start .args .t2))))
 
   works : (c .best-of .result .at < maxJobs) × (c .best-of .result .at < length (now (start .args .times)))
-      × (getD (start .args .state .work) (c .best-of .result .at) 0 < maxTime) × (start .args .state .time ≤ lastTime)
+      × (getD (start .args .state .work) (c .best-of .result .at) 0 + 1 ≤ maxTime) × (start .args .state .time ≤ lastTime)
   works =
       let known : c .best-of .result .at < length (now (start .args .times)) = omega (arith, inside, scans start .1) in
       (room, known, omega (arith, work-left, times-brief _ _ (start .pre .0 .0) .1 _ known), early start)

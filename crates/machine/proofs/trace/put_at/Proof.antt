@@ -8,9 +8,6 @@ use borrow.Author.Needs.{needs}
 use Rattle.machine.proofs.trace.put_at.Statement.{statement}
 use Rattle.machine.proofs.trace.put_at.Tie as tie
 
-add-to : tie.Need-add-to
-add-to c = search needs
-
 sub-t10 : tie.Need-sub-t10
 sub-t10 c = search needs
 
@@ -27,4 +24,4 @@ returns-2 : tie.Need-returns-2
 returns-2 c = ⊎-elim (λ w. rw (lt-ltb _ _ (w .0 .taken), w .3 .left)) (λ w. rw (le-ltb _ _ (w .left))) (c .if1 .came)
 
 pub put-at-spec : {M : Type 1} → statement M
-put-at-spec = tie.close (tie.spec add-to sub-t10 returns add-t12 returns-2)
+put-at-spec = tie.close (tie.spec sub-t10 returns add-t12 returns-2)

@@ -4,7 +4,8 @@ use native.Mathlib.Omega.{arith}
 use borrow.Author.Needs.{needs}
 use borrow.Author.Tests.{eq-eqb}
 use denote.Ref.{now}
-use Rattle.machine.proofs.Readiness.{stateOf, noted-open}
+use Rattle.machine.proofs.Readiness.{stateOf}
+use Rattle.machine.proofs.Legs.{moved-open}
 use Rattle.machine.proofs.work.work_on.Statement.{statement}
 use Rattle.machine.proofs.work.work_on.Tie as tie
 
@@ -32,7 +33,7 @@ shared-slice-read-if1 c = search needs
 returns : tie.Need-returns
 returns c =
     let start = c .before .before .before in
-    (refl, sym (noted-open (now (start .args .times)) (stateOf (start .args .time) (now (start .args .work)) (now (start .args .completions))) _ (c .if1 .taken)))
+    (refl, sym (moved-open (now (start .args .times)) (start .args .ticks) _ (stateOf (start .args .time) (now (start .args .work)) (now (start .args .completions))) (c .if1 .taken)))
 
 add-completions : tie.Need-add-completions
 add-completions c = search needs

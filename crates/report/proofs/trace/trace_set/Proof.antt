@@ -50,7 +50,7 @@ slice-aggregate-write-trace : tie.Need-slice-aggregate-write-trace
 slice-aggregate-write-trace c = search needs
 
 write-trace-requires : tie.Need-write-trace-requires
-write-trace-requires c κs = ran-fits (ran (c .before .before .before .before .before .before)) _ (c .before .before .before .entries .given .1)
+write-trace-requires c κs = ran-fits (ran (c .before .before .before .before .before .before)) _ _ (c .before .before .before .entries .given .1)
 
 returns : tie.Need-returns
 returns c = absurd (ran-not-refused (ran (c .before .before .before .before)) _ (c .before .refusal .given .1))
@@ -59,7 +59,7 @@ same-length : tie.Need-same-length
 same-length c = search needs
 
 returns-2 : tie.Need-returns-2
-returns-2 c = rw (ran-text (ran (c .before .before .before .before .before .before .before .before .before)) _ (c .before .before .before .before .before .before .entries .given .1)) at (c .before .before .write-trace .ensures)
+returns-2 c = rw (ran-text (ran (c .before .before .before .before .before .before .before .before .before)) _ _ (c .before .before .before .before .before .before .entries .given .1)) at (c .before .before .write-trace .ensures)
 
 pub trace-set-spec : {M : Type 1} → statement M
 trace-set-spec =

@@ -15,11 +15,11 @@ use Rattle.waveform.proofs.waveform.write_waveform.Tie as tie
 room : 8 * maxJobs ≤ length (replicate {A = ℕ} (8 * maxJobs) 0)
 room = omega (arith, length-replicate {A = ℕ} (8 * maxJobs) 0)
 
-there : (c : tie.After-trace) (n : ℕ) → c .trace .result ≡ Entries n
+there : (c : tie.After-trace) (n steps : ℕ) → c .trace .result ≡ Entries n steps
     → let s = c .before .before .before .before in Entered (jobsOf (s .args .set)) (s .args .times .now) (c .trace .last .1 .1 .0) n
-there c n e =
+there c n steps e =
     let s = c .before .before .before .before in
-    entered (jobsOf (s .args .set)) (s .args .times .now) (replicate (8 * maxJobs) 0) room (c .trace .ensures) n e
+    entered (jobsOf (s .args .set)) (s .args .times .now) (replicate (8 * maxJobs) 0) room (c .trace .ensures) n steps e
 
 slice-aggregate-trace : tie.Need-slice-aggregate-trace
 slice-aggregate-trace c = search needs
@@ -37,7 +37,7 @@ slice-aggregate-write-dump : tie.Need-slice-aggregate-write-dump
 slice-aggregate-write-dump c = search needs
 
 write-dump-requires : tie.Need-write-dump-requires
-write-dump-requires c κs = there (c .before .before .before .before .before .before) _ (c .before .before .before .entries .given .1) .drawn
+write-dump-requires c κs = there (c .before .before .before .before .before .before) _ _ (c .before .before .before .entries .given .1) .drawn
 
 returns : tie.Need-returns
 returns c =
@@ -55,7 +55,7 @@ returns-2 c =
     let at-entries = at-write-dump .before .before .before .before in
     let at-trace = at-entries .before .before .before in
     let s = at-trace .before .before .before .before in
-    let whole = waveform-written (there at-trace _ (at-entries .entries .given .1)) (s .args .out .now) in
+    let whole = waveform-written (there at-trace _ _ (at-entries .entries .given .1)) (s .args .out .now) in
     (at-write-dump .write-dump .ensures .0 ∙ whole .0, at-write-dump .write-dump .ensures .1 ∙ whole .1)
 
 pub write-waveform-spec : {M : Type 1} → statement M
