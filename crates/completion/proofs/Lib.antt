@@ -5,3 +5,4 @@ pub mod Passing
 pub mod Naming
 pub mod AddingUp
 pub mod Claims
+pub mod Turning

@@ -24,6 +24,9 @@ use Rattle.theory.proofs.Rules.{length-after}
 use Rattle.theory.proofs.Settling.{itr-settled, rounds-limit, settled-unique}
 use Rattle.completion.specs.declared.answer.ItrAlone.{ItrAlone}
 use Rattle.theory.proofs.Columns.{Fit}
+use Rattle.theory.proofs.RisingBounds.{Upwards, after-rises}
+use Rattle.theory.proofs.ChainWindow.{boundsIn}
+use Rattle.theory.proofs.Refilling.{Spare, spare-padded}
 
 limit-small : (t : Table) → t .count ≤ maxJobs → roundLimit t ≤ maxJobs * maxJobs * maxJobs + 2
 unfolding roundLimit
@@ -62,6 +65,16 @@ module _ (t : Table) where
     -- the definition's last round is still to come
     pub rounding-below : n < itr t .rounds
     rounding-below = by-order (itr t .rounds) n (λ l. absurd (h .moved (itr t .rounds) (omega arith) (itr-settled t .last))) (λ l. l)
+
+    -- there is nothing behind them
+    pub rounding-spare : t .count ≤ maxJobs → Spare (t .count) bounds
+    rounding-spare few = rw (h .bounds-are) (spare-padded (t .count) (after t n) (length-after t n) few)
+
+    -- they rise along each chain
+    pub rounding-rises : Upwards t (boundsIn bounds)
+    rounding-rises i l c =
+        let at : (u : ℕ) → getD bounds u 0 ≡ getD (after t n) u 0 = (λ u. ap (λ (b : List ℕ). getD b u 0) (h .bounds-are) ∙ getD-padded maxJobs 0 (after t n) u) in
+        omega (arith, at i, at (suc i), after-rises t n i l c)
 
     module _ (next : List ℕ) (e : next ≡ padded maxJobs 0 (round t bounds)) where
       next-is : next ≡ padded maxJobs 0 (after t (suc n))

@@ -21,8 +21,17 @@ pub fn cja_alone(set: JobSet) -> BoundsAlone
     }
     let columns = columns_of(set);
     let late = [Bounds::LIMIT; JobSet::MAX_JOBS];
+    let mut released = [0usize; JobSet::MAX_JOBS];
+    let mut delay = [0u64; JobSet::MAX_JOBS];
     let mut bounds = [0u64; JobSet::MAX_JOBS];
-    round(set.count, &columns, &late, &mut bounds);
+    round(
+        set.count,
+        &columns,
+        &late,
+        &mut released,
+        &mut delay,
+        &mut bounds,
+    );
     BoundsAlone {
         check: Check::Passed,
         bounds,

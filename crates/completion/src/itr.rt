@@ -1,40 +1,17 @@
 // The ITR bounds, and the number of rounds that they take.
 ghost use Rattle.laws.specs.Words.{_≡_, _≤_, sameUpTo, padded};
 ghost use Rattle.jobs.specs.Limits.{maxJobs};
-ghost use Rattle.theory.specs.Bounds.{itrStart, itr as Theory·itr};
+ghost use Rattle.theory.specs.Bounds.{round as Theory·round, itr as Theory·itr};
 ghost use Rattle.completion.specs.Answers.{itrOf, itrAlone};
-ghost use Rattle.theory.proofs.{Columns.lent, Columns.Fit, Endings.Ended};
+ghost use Rattle.theory.proofs.{Columns.lent, Columns.Fit, Endings.Ended, Refilling.Spare, PairDelays.Roundable, SweptPairs.Ready};
 use crate::answer::ItrAlone;
-use crate::columns::CHAIN;
 use crate::columns::Columns;
-use crate::columns::LATEST;
-use crate::columns::MOST;
 use crate::columns::columns_of;
-use crate::columns::figure;
-use crate::predecessor::not_before;
 use crate::round::round;
+use crate::start::start;
 use jobs::check::check;
 use jobs::refusal::Check;
 use jobs::set::JobSet;
-
-// The bounds to start from: the ERT rule with interference 0.
-fn start<'a>(count: usize, columns: &'a Columns) -> [u64; JobSet::MAX_JOBS]
-    requires { ⌜ Fit (lent count (now columns)) ⌝ }
-    ensures { λ r. ⌜ r ≡ padded maxJobs 0 (itrStart (lent count (now (columns .entry)))) ⌝ }
-{
-    let mut bounds = [0u64; JobSet::MAX_JOBS];
-    let mut last: u64 = 0;
-    let mut bound: u64 = 0;
-    let mut i: usize = 0;
-    while i < count {
-        let own = figure(columns, CHAIN, i);
-        bound = not_before(last, own, figure(columns, LATEST, i), bound) + figure(columns, MOST, i);
-        bounds[i] = bound;
-        last = own;
-        i += 1;
-    }
-    bounds
-}
 
 // Whether the first count bounds are the same.
 fn same_bounds<'a, 'b>(
@@ -55,26 +32,67 @@ fn same_bounds<'a, 'b>(
     true
 }
 
-// Rounds until one changes no bound; that one counts.
+// One round from the bounds before, into an array that has nothing behind the jobs; whether it changed no bound.
+fn repeats<'a, 'b, 'c, 'd, 'e>(
+    count: usize,
+    columns: &'a Columns,
+    bound: &'b [u64; JobSet::MAX_JOBS],
+    released: &'c mut [usize; JobSet::MAX_JOBS],
+    delay: &'d mut [u64; JobSet::MAX_JOBS],
+    next: &'e mut [u64; JobSet::MAX_JOBS],
+) -> bool
+    requires { ⌜ Roundable count (now columns) (now bound) × Ready count (now columns) (now released) (now delay) × Spare count (now next) ⌝ }
+    ensures { λ r.
+        let columns = now (columns .entry) in
+        let bound = now (bound .entry) in
+        ⌜ (r ≡ sameUpTo count (now (next .exit)) bound) × (now (next .exit) ≡ padded maxJobs 0 (Theory·round (lent count columns) bound)) × Ready count columns (now (released .exit)) (now (delay .exit)) ⌝ }
+{
+    round(count, columns, bound, released, delay, next);
+    same_bounds(count, next, bound)
+}
+
+// Rounds until one changes no bound; that one counts. They go to and fro between two arrays.
 fn settle<'a>(count: usize, columns: &'a Columns) -> ItrAlone
     requires { ⌜ Fit (lent count (now columns)) × Ended count (now columns) ⌝ }
     ensures { λ r. let answer = Theory·itr (lent count (now (columns .entry))) in ⌜ r ≡ record { check = Check.Passed; bounds = padded maxJobs 0 (answer .bounds); rounds = answer .rounds } ⌝ }
 {
-    let mut bounds = start(count, columns);
+    let mut released = [0usize; JobSet::MAX_JOBS];
+    let mut delay = [0u64; JobSet::MAX_JOBS];
+    let mut bounds = [0u64; JobSet::MAX_JOBS];
+    let mut next = [0u64; JobSet::MAX_JOBS];
+    start(count, columns, &mut bounds);
     let mut rounds: u64 = 0;
     loop {
-        let mut next = [0u64; JobSet::MAX_JOBS];
-        round(count, columns, &bounds, &mut next);
         let taken = rounds + 1;
-        if same_bounds(count, &next, &bounds) {
+        if repeats(
+            count,
+            columns,
+            &bounds,
+            &mut released,
+            &mut delay,
+            &mut next,
+        ) {
             return ItrAlone {
                 check: Check::Passed,
                 bounds: next,
                 rounds: taken,
             };
         }
-        bounds = next;
-        rounds = taken;
+        rounds = taken + 1;
+        if repeats(
+            count,
+            columns,
+            &next,
+            &mut released,
+            &mut delay,
+            &mut bounds,
+        ) {
+            return ItrAlone {
+                check: Check::Passed,
+                bounds,
+                rounds,
+            };
+        }
     }
 }
 

@@ -14,4 +14,7 @@ mod number;
 mod pair;
 mod predecessor;
 mod round;
+mod start;
+mod sweep;
 mod taken;
+mod window;

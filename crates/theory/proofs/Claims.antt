@@ -28,6 +28,7 @@ use Rattle.theory.proofs.Legal.{times-to, releases-to}
 use Rattle.theory.proofs.Existence.{run-of}
 use Rattle.theory.proofs.Limits.{ert-limit}
 use Rattle.theory.proofs.Delays.{ert-explains, cja-explains, itr-explains, last-round}
+use Rattle.theory.proofs.RisingBounds.{releases-rise, after-rises}
 use Rattle.theory.proofs.PartBounds.{part-no-later}
 use Rattle.theory.proofs.LeastUrgent.{part-unmoved}
 use Rattle.theory.proofs.Removal.{withoutChain, oldPlace, LeastUrgent, removal-no-later, removal-unmoved}
@@ -73,6 +74,8 @@ claims js passed =
       bounds-limited = ert-limited js passed;
       few-rounds = rounds-few t well;
       itr-least = itr-below t;
+      releases-rise = releases-rise js;
+      after-rises = after-rises t;
       taken-off = λ part place number h. part-no-later h (well .ordered);
       least-urgent = λ part place number h less. part-unmoved h (well .ordered) less;
       last-round = last-round t;

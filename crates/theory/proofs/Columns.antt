@@ -61,13 +61,14 @@ pub record Alike (a b : Table) (n : ℕ) : Type 0 where
   pub urgency : (i : ℕ) → i < n → a .urgency i ≡ b .urgency i
   pub release : (i : ℕ) → i < n → a .earliest i ≡ b .earliest i
 
--- A table of as many jobs as a set holds, in order of their chains, with most times and releases in their limits.
+-- A table of as many jobs as a set holds, in order of their chains, with most times and releases in their limits and releases that rise along chains.
 pub record Fit (t : Table) : Type 0 where
   pub few : t .count ≤ maxJobs
   pub ordered : (i : ℕ) → suc i < t .count → t .chain i ≤ t .chain (suc i)
   pub mosts : (i : ℕ) → i < t .count → t .most i ≤ maxTime
   pub early : (i : ℕ) → i < t .count → t .earliest i ≤ maxRelease + maxJobs * maxTime
   pub late : (i : ℕ) → i < t .count → t .latest i ≤ maxRelease + maxJobs * maxTime
+  pub rises : (i : ℕ) → suc i < t .count → t .chain i ≡ t .chain (suc i) → t .earliest i ≤ t .earliest (suc i)
 
 -- A figure of the first n places in an array.
 abbrev pub column : ℕ → (ℕ → ℕ) → List ℕ

@@ -15,6 +15,7 @@ use Rattle.theory.proofs.Overlaps.{overlap-by}
 use Rattle.theory.proofs.Monotone.{pairs-mono}
 use Rattle.theory.proofs.Columns.{lent, Fit}
 use Rattle.theory.proofs.Weights.{weightOf, spanned}
+use Rattle.theory.proofs.RisingBounds.{Upwards}
 use Rattle.theory.proofs.Rules.{always}
 
 abbrev pub late : List ℕ
@@ -29,6 +30,9 @@ module _ (t : Table) (fit : Fit t) where
       overlap-by t late k j u
       (omega (arith, late-at u (omega (arith, fit .few)), fit .early k kl))
       (omega (arith, late-at j (omega (arith, fit .few)), fit .early u ul))
+
+  pub late-rises : Upwards t (λ u. getD late u 0)
+  late-rises i l c = omega (arith, late-at i (omega (arith, fit .few)), late-at (suc i) (omega (arith, fit .few)))
 
   pub round-late : round t late ≡ cja t
   unfolding round cja cjaWith

@@ -5,12 +5,12 @@ use Prim.Native.Nat.{ℕ, _+_, _*_, _≤_, _<_}
 use mathlib.Core.Path.{_≡_, sym, _∙_}
 use mathlib.Core.List.{List}
 use native.Mathlib.Omega.{arith}
-use lib.ListN.{set, replicate}
-use Rattle.laws.proofs.Filling.{filled-none, filled-next}
+use lib.ListN.{set}
 use Rattle.jobs.specs.Limits.{maxJobs, maxRelease, maxTime}
 use Rattle.theory.specs.Table.{Table}
 use Rattle.theory.specs.Bounds.{ertRule}
-use Rattle.theory.proofs.Columns.{Fit, column}
+use Rattle.theory.proofs.Columns.{Fit}
+use Rattle.theory.proofs.Refilling.{Spare, Refilled, refilled-none, refilled-next}
 use Rattle.theory.proofs.Predecessors.{notBefore, ert-by, not-before-limit}
 use Rattle.theory.proofs.Prior.{prior, prior-none, prior-next}
 
@@ -26,17 +26,17 @@ pub record Ruled (t : Table) (inter : ℕ → ℕ) (i last bound : ℕ) (bounds 
   pub inside : i ≤ t .count
   pub last-is : last ≡ prior (t .chain) i
   pub bound-is : bound ≡ prior (ertRule t inter) i
-  pub bounds-are : bounds ≡ column i (ertRule t inter)
+  pub bounds-are : Refilled (t .count) (ertRule t inter) i bounds
   pub small : bound ≤ latestLimit + i * jobLimit
 
 module _ (t : Table) (inter : ℕ → ℕ) where
-  pub ruled-none : Ruled t inter 0 0 0 (replicate maxJobs 0)
-  ruled-none =
+  pub ruled-none : (bounds : List ℕ) → Spare (t .count) bounds → Ruled t inter 0 0 0 bounds
+  ruled-none bounds spare =
       record {
         inside = omega arith;
         last-is = sym (prior-none (t .chain));
         bound-is = sym (prior-none (ertRule t inter));
-        bounds-are = filled-none maxJobs 0 (ertRule t inter);
+        bounds-are = refilled-none (ertRule t inter) spare;
         small = omega arith;
       }
 
@@ -52,6 +52,6 @@ module _ (t : Table) (inter : ℕ → ℕ) where
           inside = omega arith;
           last-is = sym (prior-next (t .chain) i);
           bound-is = is ∙ sym (prior-next (ertRule t inter) i);
-          bounds-are = filled-next maxJobs 0 (ertRule t inter) i bounds bound' (omega (arith, fit .few)) (h .bounds-are) is;
+          bounds-are = refilled-next (ertRule t inter) (fit .few) (h .bounds-are) bound' l is;
           small = omega (arith, ruled-time time et, fit .mosts i l, fit .few);
         }

@@ -1,5 +1,5 @@
 -- What is proved of every accepted set; proofs/Claims has the proof of all. Document 01, "The runs of demand 3". Assumes nothing.
-use Rattle.laws.specs.Words.{ℕ, zero, suc, _≤_, _<_, max, _≡_, _≢_, true, List, length, numberAt}
+use Rattle.laws.specs.Words.{ℕ, zero, suc, _+_, _≤_, _<_, max, _≡_, _≢_, true, List, length, numberAt}
 use Rattle.jobs.specs.{declared.job.Job.Job, declared.refusal.Check.Check, Checks.checkOf}
 use Rattle.theory.specs.{Table.Table, Table.tableOf, Bounds.ert, Bounds.cja, Bounds.boundLimit, Bounds.round, Bounds.after, Bounds.Answer, Bounds.roundLimit, Bounds.overlap, Bounds.itr, Delays.ertDelay, Delays.cjaDelay, Delays.itrDelay, Delays.ByErt, Delays.ByPair, Runs.Entry, Runs.timesFit, Runs.releasesFit, Runs.isRun, Runs.CompleteBy}
 
@@ -32,6 +32,10 @@ Holds t bounds = (j : ℕ) → j < t .count → CompleteBy t j (numberAt bounds 
 -- The first bounds are at most the others, at each of the first n places.
 abbrev pub AtMost : ℕ → List ℕ → List ℕ → Type 0
 AtMost n a b = (i : ℕ) → i < n → numberAt a i ≤ numberAt b i
+
+-- From each job to the next of its chain a figure rises, by this much at least.
+abbrev pub Rises : Table → (ℕ → ℕ) → (ℕ → ℕ) → Type 0
+Rises t figure by = (i : ℕ) → suc i < t .count → t .chain i ≡ t .chain (suc i) → figure i + by i ≤ figure (suc i)
 
 -- The round of this number changed no bound.
 abbrev pub Repeats : Table → ℕ → Type 0
@@ -76,6 +80,10 @@ pub record Claims (t : Table) : Type 0 where
   pub few-rounds : itr t .rounds ≤ max 1 (t .count)
   -- ITR's bounds are the least that a round leaves unchanged.
   pub itr-least : (bounds : List ℕ) → round t bounds ≡ bounds → AtMost (t .count) (itr t .bounds) bounds
+  -- Along a chain the effective releases rise, by a job's least time at least.
+  pub releases-rise : Rises t (t .earliest) (t .least)
+  -- So do the bounds after any number of rounds, by the next job's most time at least; ITR's are those after the last.
+  pub after-rises : (n : ℕ) → Rises t (numberAt (after t n)) (λ i. t .most (suc i))
   -- No bound rises where chains are taken off.
   pub taken-off : (part : Table) (place number : ℕ → ℕ) → Part part t place number → Compared _≤_ part t place
   -- Chains strictly less urgent than all others move none of their bounds.

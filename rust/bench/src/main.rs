@@ -1,5 +1,8 @@
 //! Times the proved part and the plain reference in one run, on the same tables.
 
+mod rounds;
+mod scan;
+
 use cudlomer::{Algorithm, Set, State, Ticked};
 use reference::machine::Span;
 use reference::{blocks, machine, recording, set, table, text, Job};
@@ -26,14 +29,6 @@ fn run_load(jobs: u64, chains: u64, release: u64, most: u64) -> Vec<Job> {
 
 fn table_text(jobs: &[Job]) -> Vec<u8> {
     text::table_text(jobs).into_bytes()
-}
-
-/// How many (pair, job) steps the three bounds take: one scan over all jobs for each job by ERT, and one for each pair of a chain by CJA and
-/// by each round of ITR.
-fn steps(jobs: u64, chains: u64, rounds: u64) -> u64 {
-    let per = jobs / chains;
-    let pairs = chains * per * (per + 1) / 2;
-    jobs * jobs + (rounds + 1) * pairs * jobs
 }
 
 /// The least time of a call over many short batches, in nanoseconds; a call of more than a second is timed once.
@@ -71,16 +66,11 @@ fn verdict(table: &[u8], algorithm: u8) -> f64 {
     })
 }
 
-/// What is timed of a load: reading and, with it, ERT, CJA and ITR; the same of a table of one job; the bounds text; and by the plain reference
-/// reading and the text.
+/// What is timed of a load: reading and, with it, ERT, CJA and ITR; the bounds text; and by the plain reference reading and the text.
 fn bounds_times(table: &[u8]) -> Vec<f64> {
     let mut buffer = vec![0u8; 16_384];
-    let one = table_text(&load(1, 1));
-    let mut times = vec![];
-    for t in [table, &one] {
-        times.push(reading(t));
-        times.extend([1, 2, 3].map(|algorithm| verdict(t, algorithm)));
-    }
+    let mut times = vec![reading(table)];
+    times.extend([1, 2, 3].map(|algorithm| verdict(table, algorithm)));
     times.push(time(|| {
         black_box(cudlomer::bounds(black_box(table), &mut buffer).unwrap());
     }));
@@ -94,16 +84,11 @@ fn bounds_times(table: &[u8]) -> Vec<f64> {
 }
 
 fn print_bounds(jobs: u64, chains: u64, times: &[f64]) {
-    let [read, with_ert, with_cja, with_itr, one, one_ert, one_cja, one_itr, whole, plain_read, plain_whole] = times else { unreachable!() };
+    let [read, with_ert, with_cja, with_itr, whole, plain_read, plain_whole] = times else { unreachable!() };
     let rounds = cudlomer::rounds(&table_text(&load(jobs, chains))).unwrap();
     let (ert, cja, itr) = (with_ert - read, with_cja - read, with_itr - read);
-    let sum = ert + cja + itr;
-    // With one job there is one step of each.
-    let once = one_ert + one_cja + one_itr - 3.0 * one;
-    let all = steps(jobs, chains, rounds) as f64;
     print!("{jobs:2} jobs, {chains} chains, {rounds} rounds: {read:6.0} {:5.2} | ", read / plain_read);
-    print!("{ert:6.0} {cja:7.0} {itr:8.0} | {once:5.0} {:5.2} {:5.2} | ", (sum - once) / (all - 3.0), sum / all);
-    println!("{whole:8.0} {:5.2}", whole / plain_whole);
+    println!("{ert:6.0} {cja:7.0} {itr:8.0} | {whole:8.0} {:5.2}", whole / plain_whole);
 }
 
 /// What is timed of a table written by a call, with its numbers short and with them as long as can be: that, and the same of the plain reference.
@@ -149,8 +134,11 @@ fn trace_times(load: fn() -> Vec<Job>) -> Vec<f64> {
     vec![called, plain]
 }
 
+/// A load and its name.
+type Named = (&'static str, fn() -> Vec<Job>);
+
 fn print_traces() {
-    let loads: [(&str, fn() -> Vec<Job>); 4] = [
+    let loads: [Named; 4] = [
         ("P1", p1),
         (" 8 jobs, 2 chains", || load(8, 2)),
         ("64 jobs, 8 chains", || load(64, 8)),
@@ -332,11 +320,15 @@ const PASSES: usize = 20;
 const LOADS: [(u64, u64); 8] = [(8, 2), (16, 2), (32, 2), (64, 2), (8, 8), (16, 8), (32, 8), (64, 8)];
 
 fn main() {
-    println!("  ns: reading, ratio | ERT, CJA, ITR | what the three calls make once, a step, a step with that | bounds with text, ratio");
+    if std::env::args().nth(1).as_deref() == Some(rounds::PASS) {
+        return rounds::pass();
+    }
+    println!("  ns: reading, ratio | ERT, CJA, ITR | bounds with text, ratio");
     let times = least(|(jobs, chains)| bounds_times(&table_text(&load(jobs, chains))), &LOADS);
     for (&(jobs, chains), times) in LOADS.iter().zip(&times) {
         print_bounds(jobs, chains, times);
     }
+    rounds::print();
     println!("  ns: a table written by a call, which checks the set: short numbers, ratio | long ones, ratio");
     let loads = [(8, 2), (64, 8)];
     for ((jobs, chains), times) in loads.iter().zip(&least(writing_times, &loads)) {

@@ -8,6 +8,7 @@ mod engine;
 mod faults;
 mod machine;
 mod recordings;
+mod rounds;
 mod runs;
 mod sets;
 mod side;
@@ -15,6 +16,7 @@ mod states;
 mod tally;
 mod texts;
 mod waveform;
+mod windows;
 mod wrapper;
 
 use draw::{Draw, Kind};
@@ -38,6 +40,7 @@ fn main() {
     }
     engine::compare_drawn(&mut tally, &mut draw);
     recordings::compare(&mut tally, &mut draw);
+    rounds::compare(&mut tally, &mut draw);
     if !tally.close() {
         std::process::exit(1);
     }

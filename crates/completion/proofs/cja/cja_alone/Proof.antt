@@ -1,6 +1,6 @@
 -- `cja_alone` answers the bounds of `cjaOf`: the set's refusal, or its bounds. Assumes nothing.
 use Prim.Native.Nat.{ℕ}
-use mathlib.Core.Path.{_≡_, refl, sym, ap, _∙_}
+use mathlib.Core.Path.{_≡_, sym, ap, _∙_}
 use mathlib.Core.List.{List}
 use borrow.Author.Needs.{needs}
 use Rattle.laws.specs.Words.{padded}
@@ -8,7 +8,9 @@ use Rattle.jobs.specs.declared.refusal.Check.the-variants.{Passed}
 use Rattle.jobs.specs.Jobs.{jobsOf}
 use Rattle.jobs.specs.Checks.{checkOf}
 use Rattle.jobs.specs.Limits.{maxJobs}
-use Rattle.theory.proofs.Late.{round-late}
+use Rattle.theory.proofs.Late.{late-rises, round-late}
+use Rattle.theory.proofs.Refilling.{spare-none}
+use Rattle.theory.proofs.SweptPairs.{ready-none}
 use Rattle.completion.specs.declared.answer.BoundsAlone.{BoundsAlone}
 use Rattle.completion.specs.Answers.{cjaOf}
 use Rattle.completion.proofs.Lent.{Lends, lends}
@@ -42,13 +44,18 @@ columns-of-requires : tie.Need-columns-of-requires
 columns-of-requires c κs = accepts c
 
 round-requires : tie.Need-round-requires
-round-requires c κs = (held (c .before .before .before) .fit, c .before .before .before .columns-of .ensures .1, refl)
+round-requires c κs =
+    let m = c .before .before .before .before .before in
+    let fit = held m .fit in
+    (record { fit = fit; ended = m .columns-of .ensures .1; rises = late-rises _ fit }, ready-none (m .columns-of .ensures .1), spare-none _)
 
 returns-2 : tie.Need-returns-2
 unfolding cjaOf
 returns-2 c =
-    let lent = held (c .before .before .before .before) in
-    rw (accepts (c .before .before .before .before .before)) (ap passed (c .round .ensures ∙ ap (padded maxJobs 0) (round-late _ (lent .fit) ∙ lent .by-cja)))
+    let m = c .before .before .before .before .before .before in
+    let lent = held m in
+    rw (accepts (m .before))
+    (ap passed (c .round .ensures .0 ∙ ap (padded maxJobs 0) (round-late _ (lent .fit) ∙ lent .by-cja)))
 
 pub cja-alone-spec : {M : Type 1} → statement M
 cja-alone-spec = tie.close (tie.spec check-requires enum-known-refusal returns enum-told columns-of-requires round-requires returns-2)

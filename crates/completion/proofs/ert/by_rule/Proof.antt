@@ -6,7 +6,8 @@ use borrow.Author.Needs.{needs}
 use Rattle.jobs.specs.Limits.{maxTime}
 use Rattle.theory.specs.Table.{Table}
 use Rattle.theory.specs.Bounds.{interference, boundLimit, ertRule, interferenceAt, ert}
-use Rattle.theory.proofs.Columns.{lent, column}
+use Rattle.theory.proofs.Columns.{lent}
+use Rattle.theory.proofs.Refilling.{spare-none, refilled-all}
 use Rattle.theory.proofs.Predecessors.{notBefore}
 use Rattle.theory.proofs.Weights.{spanned}
 use Rattle.theory.proofs.Pairs.{delay-limit}
@@ -44,7 +45,7 @@ timed : (c : tie.After-not-before Inv-loop μ-loop)
 timed c = c .not-before .ensures ∙ rw (c .before .figure3 .ensures, c .before .before .before .before .before .figure .ensures)
 
 loop-holds : tie.Need-loop-holds Inv-loop μ-loop
-loop-holds c = ruled-none (table c) (interferenceAt (table c))
+loop-holds c = ruled-none (table c) (interferenceAt (table c)) _ (spare-none (c .args .count))
 
 figure-requires : tie.Need-figure-requires Inv-loop μ-loop
 figure-requires c κs = search needs
@@ -107,9 +108,7 @@ returns : tie.Need-returns Inv-loop μ-loop
 unfolding ert
 returns c =
     let s = c .before .before in
-    let l = c .before .loop in
-    let e : l .i ≡ s .args .count = omega (arith, l .inv .inside, c .loop-test .left) in
-    l .inv .bounds-are ∙ ap (λ (n : ℕ). column n (ertRule (table s) (interferenceAt (table s)))) e
+    refilled-all (ertRule (table s) (interferenceAt (table s))) (s .pre .0 .few) (c .before .loop .inv .bounds-are) (omega (arith, c .loop-test .left))
 
 pub by-rule-spec : {M : Type 1} → statement M
 by-rule-spec =

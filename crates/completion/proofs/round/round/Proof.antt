@@ -1,72 +1,50 @@
--- `round` answers the theory's. The loop's invariant: the bounds of the first j jobs stand in the array. Assumes nothing.
-use Prim.Native.Nat.{ℕ, _-_, _≤_}
-use mathlib.Core.Path.{_≡_, ap, _∙_}
-use native.Mathlib.Omega.{arith}
+-- `round` answers the theory's: for a chain alone the bounds that ITR starts from, else by a scan or a sweep. Assumes nothing.
+use mathlib.Core.Path.{sym, ap, _∙_}
 use borrow.Author.Needs.{needs}
-use Rattle.laws.proofs.Filling.{filled-none, filled-next}
+use Rattle.laws.specs.Words.{padded}
 use Rattle.jobs.specs.Limits.{maxJobs}
-use Rattle.theory.specs.Table.{Table}
-use Rattle.theory.specs.Bounds.{cjaWith, round}
-use Rattle.theory.proofs.Columns.{lent, column}
-use Rattle.theory.proofs.Pairs.{roundAt}
+use Rattle.theory.proofs.Columns.{lent}
+use Rattle.theory.proofs.AloneChain.{round-alone, ended-alone}
 use Rattle.completion.proofs.round.round.Statement.{statement}
 use Rattle.completion.proofs.round.round.Tie as tie
 
-abbrev Inv-loop : tie.InvT-loop
-Inv-loop count columns bound next₀ j₀ next j =
-    (j ≤ count) × (next ≡ column j (roundAt (lent count columns) bound))
+figure-requires : tie.Need-figure-requires
+figure-requires c κs = search needs
 
-abbrev μ-loop : tie.MeasureT-loop
-μ-loop count columns bound next₀ j₀ next j = count - j
+start-requires : tie.Need-start-requires
+start-requires c κs = let s = c .before .before .before in (s .pre .0 .fit, s .pre .2)
 
--- the table of the lent columns
-abbrev table : tie.Start Inv-loop μ-loop → Table
-table s = lent (s .args .count) (s .args .columns .now)
-
-loop-holds : tie.Need-loop-holds Inv-loop μ-loop
-loop-holds c = (omega arith, c .pre .2 ∙ filled-none maxJobs 0 _)
-
-largest-pair-requires : tie.Need-largest-pair-requires Inv-loop μ-loop
-largest-pair-requires c κs = search needs
-
-mul-next : tie.Need-mul-next Inv-loop μ-loop
-mul-next c = search needs
-
-element-write-next : tie.Need-element-write-next Inv-loop μ-loop
-element-write-next c = search needs
-
-add-j : tie.Need-add-j Inv-loop μ-loop
-add-j c = search needs
-
-loop-less : tie.Need-loop-less Inv-loop μ-loop
-loop-less c = search needs
-
-loop-again : tie.Need-loop-again Inv-loop μ-loop
-loop-again c =
-    let s = c .before .before .before in
-    let l = c .before .before .loop in
-    let h = c .before .loop-test .taken in
-    (omega arith, filled-next maxJobs 0 _ (l .j) (l .next) _ (omega (arith, s .pre .0 .few)) (l .inv .1) (c .largest-pair .ensures))
-
-returns : tie.Need-returns Inv-loop μ-loop
-unfolding round cjaWith
+returns : tie.Need-returns
 returns c =
-    let s = c .before .before in
-    let l = c .before .loop in
-    let e : l .j ≡ s .args .count = omega arith in
-    l .inv .1 ∙ ap (λ (n : ℕ). column n (roundAt (table s) (s .args .bound .now))) e
+    let s = c .before .before .before .before in
+    let a = s .args in
+    let one = ended-alone (a .count) (a .columns .now) (s .pre .0 .ended) (sym (c .before .before .before .figure .ensures) ∙ c .before .before .if1 .taken) in
+    (c .start .ensures ∙ ap (padded maxJobs 0) (sym (round-alone (lent (a .count) (a .columns .now)) one (a .bound .now))), s .pre .1)
+
+scan-pays-requires : tie.Need-scan-pays-requires
+scan-pays-requires c κs = search needs
+
+scan-round-requires : tie.Need-scan-round-requires
+scan-round-requires c κs = let s = c .before .before .before .before .before in (s .pre .0 .fit, s .pre .0 .ended, s .pre .2)
+
+returns-2 : tie.Need-returns-2
+returns-2 c = (c .scan-round .ensures, c .before .before .before .before .before .before .pre .1)
+
+sweep-round-requires : tie.Need-sweep-round-requires
+sweep-round-requires c κs = c .before .before .before .before .before .before .before .pre
+
+returns-3 : tie.Need-returns-3
+returns-3 c = c .sweep-round .ensures
 
 pub round-spec : {M : Type 1} → statement M
 round-spec =
     tie.close
     (tie.spec
-    Inv-loop
-    μ-loop
-    loop-holds
-    largest-pair-requires
-    mul-next
-    element-write-next
-    add-j
-    loop-less
-    loop-again
-    returns)
+    figure-requires
+    start-requires
+    returns
+    scan-pays-requires
+    scan-round-requires
+    returns-2
+    sweep-round-requires
+    returns-3)

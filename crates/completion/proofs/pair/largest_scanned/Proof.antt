@@ -1,4 +1,4 @@
--- `largest_pair` answers `largestPair`. The loop's invariant: the pairs from k on are behind it. Assumes nothing.
+-- `largest_scanned` answers `largestPair`. The loop's invariant: the pairs from k on are behind it. Assumes nothing.
 use Prim.Native.Nat.{ℕ, suc, _*_, _-_, _≤_, _<_, min}
 use mathlib.Core.Path.{_≡_, _∙_}
 use mathlib.Core.Bool.{Bool}
@@ -12,8 +12,8 @@ use Rattle.theory.specs.Table.{Table}
 use Rattle.theory.proofs.Columns.{lent}
 use Rattle.theory.proofs.Weights.{spanned}
 use Rattle.theory.proofs.Pairs.{Walked, walked-none, walked-sum, walked-low, walked-next, walked-stop, walked-all, pair-is, delay-limit}
-use Rattle.completion.proofs.pair.largest_pair.Statement.{statement}
-use Rattle.completion.proofs.pair.largest_pair.Tie as tie
+use Rattle.completion.proofs.pair.largest_scanned.Statement.{statement}
+use Rattle.completion.proofs.pair.largest_scanned.Tie as tie
 
 abbrev Inv-loop : tie.InvT-loop
 Inv-loop count columns bound j own to sum₀ low₀ best₀ k₀ sum low best k = Walked (lent count columns) (overlap (lent count columns) bound) maxTime j k sum low best
@@ -146,8 +146,8 @@ loop-again c =
 returns-2 : tie.Need-returns-2 Inv-loop μ-loop
 returns-2 c = let s = c .before .before .before .before .before in walked-all (table s) (s .args .j) (keep s) maxTime (c .before .loop .k) (omega (arith, c .loop-test .left)) (c .before .loop .inv)
 
-pub largest-pair-spec : {M : Type 1} → statement M
-largest-pair-spec =
+pub largest-scanned-spec : {M : Type 1} → statement M
+largest-scanned-spec =
     tie.close
     (tie.spec
     Inv-loop

@@ -1,15 +1,16 @@
 -- `start` answers `itrStart`. The loop's invariant: the bounds of the first i jobs stand in the array. Assumes nothing.
 use Prim.Native.Nat.{ℕ, _-_}
-use mathlib.Core.Path.{_≡_, ap, _∙_}
+use mathlib.Core.Path.{_≡_, _∙_}
 use native.Mathlib.Omega.{arith}
 use borrow.Author.Needs.{needs}
 use Rattle.theory.specs.Table.{Table}
 use Rattle.theory.specs.Bounds.{ertRule, itrStart}
-use Rattle.theory.proofs.Columns.{lent, column}
+use Rattle.theory.proofs.Columns.{lent}
+use Rattle.theory.proofs.Refilling.{refilled-all}
 use Rattle.theory.proofs.Predecessors.{notBefore}
 use Rattle.theory.proofs.Ruled.{Ruled, ruled-none, ruled-time, ruled-next}
-use Rattle.completion.proofs.itr.start.Statement.{statement}
-use Rattle.completion.proofs.itr.start.Tie as tie
+use Rattle.completion.proofs.start.start.Statement.{statement}
+use Rattle.completion.proofs.start.start.Tie as tie
 
 abbrev Inv-loop : tie.InvT-loop
 Inv-loop count columns bounds₀ last₀ bound₀ i₀ bounds last bound i = Ruled (lent count columns) (λ k. 0) i last bound bounds
@@ -30,7 +31,7 @@ timed : (c : tie.After-not-before Inv-loop μ-loop)
 timed c = c .not-before .ensures ∙ rw (c .before .figure2 .ensures, c .before .before .figure .ensures)
 
 loop-holds : tie.Need-loop-holds Inv-loop μ-loop
-loop-holds c = ruled-none (table c) none
+loop-holds c = ruled-none (table c) none (c .args .bounds .now) (c .pre .1)
 
 figure-requires : tie.Need-figure-requires Inv-loop μ-loop
 figure-requires c κs = search needs
@@ -49,13 +50,13 @@ add-bound c =
     let s = c .before .before .before .before .before .before in
     let l = c .before .before .before .before .before .loop in
     let h = c .before .before .before .before .loop-test .taken in
-    search (needs, ruled-time (table s) none (s .pre) (l .inv) h (c .before .not-before .result) (timed (c .before)), s .pre .mosts (l .i) h, s .pre .few, h)
+    search (needs, ruled-time (table s) none (s .pre .0) (l .inv) h (c .before .not-before .result) (timed (c .before)), s .pre .0 .mosts (l .i) h, s .pre .0 .few, h)
 
 mul-bounds : tie.Need-mul-bounds Inv-loop μ-loop
 mul-bounds c = search needs
 
-array-write-bounds : tie.Need-array-write-bounds Inv-loop μ-loop
-array-write-bounds c = search needs
+element-write-bounds : tie.Need-element-write-bounds Inv-loop μ-loop
+element-write-bounds c = search needs
 
 add-i : tie.Need-add-i Inv-loop μ-loop
 add-i c = search needs
@@ -68,15 +69,13 @@ loop-again c =
     let s = c .before .before .before .before .before .before in
     let l = c .before .before .before .before .before .loop in
     rw (c .figure3 .ensures, c .before .before .before .figure .ensures)
-    (ruled-next (table s) none (s .pre) (l .inv) (c .before .before .before .before .loop-test .taken) (c .before .not-before .result) _ (timed (c .before)) (omega arith) (omega arith))
+    (ruled-next (table s) none (s .pre .0) (l .inv) (c .before .before .before .before .loop-test .taken) (c .before .not-before .result) _ (timed (c .before)) (omega arith) (omega arith))
 
 returns : tie.Need-returns Inv-loop μ-loop
 unfolding itrStart
 returns c =
     let s = c .before .before in
-    let l = c .before .loop in
-    let e : l .i ≡ s .args .count = omega (arith, l .inv .inside, c .loop-test .left) in
-    l .inv .bounds-are ∙ ap (λ (n : ℕ). column n (ertRule (table s) none)) e
+    refilled-all (ertRule (table s) none) (s .pre .0 .few) (c .before .loop .inv .bounds-are) (omega (arith, c .loop-test .left))
 
 pub start-spec : {M : Type 1} → statement M
 start-spec =
@@ -91,7 +90,7 @@ start-spec =
     figure-requires-3
     add-bound
     mul-bounds
-    array-write-bounds
+    element-write-bounds
     add-i
     loop-less
     loop-again
