@@ -1,9 +1,9 @@
 // The ITR bounds, and the number of rounds that they take.
 ghost use Rattle.laws.specs.Words.{_≡_, _≤_, sameUpTo, padded};
 ghost use Rattle.jobs.specs.Limits.{maxJobs};
-ghost use Rattle.theory.specs.Bounds.{round as Theory·round, itr as Theory·itr};
+ghost use Rattle.theory.specs.Bounds.{itr as Theory·itr};
 ghost use Rattle.completion.specs.Answers.{itrOf, itrAlone};
-ghost use Rattle.theory.proofs.{Columns.lent, Columns.Fit, Endings.Ended, Refilling.Spare, PairDelays.Roundable, SweptPairs.Ready};
+ghost use Rattle.theory.proofs.{Columns.lent, Columns.Fit, Endings.Ended, Refilling.Spare, PairDelays.Roundable, SweptPairs.Ready, SweptPairs.Rounded};
 use crate::answer::ItrAlone;
 use crate::columns::Columns;
 use crate::columns::columns_of;
@@ -43,9 +43,8 @@ fn repeats<'a, 'b, 'c, 'd, 'e>(
 ) -> bool
     requires { ⌜ Roundable count (now columns) (now bound) × Ready count (now columns) (now released) (now delay) × Spare count (now next) ⌝ }
     ensures { λ r.
-        let columns = now (columns .entry) in
         let bound = now (bound .entry) in
-        ⌜ (r ≡ sameUpTo count (now (next .exit)) bound) × (now (next .exit) ≡ padded maxJobs 0 (Theory·round (lent count columns) bound)) × Ready count columns (now (released .exit)) (now (delay .exit)) ⌝ }
+        ⌜ (r ≡ sameUpTo count (now (next .exit)) bound) × Rounded count (now (columns .entry)) bound (now (released .exit)) (now (delay .exit)) (now (next .exit)) ⌝ }
 {
     round(count, columns, bound, released, delay, next);
     same_bounds(count, next, bound)

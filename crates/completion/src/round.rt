@@ -2,7 +2,7 @@
 ghost use Rattle.laws.specs.Words.{_≡_, _≤_, padded};
 ghost use Rattle.jobs.specs.Limits.{maxJobs};
 ghost use Rattle.theory.specs.Bounds.{round as Theory·round};
-ghost use Rattle.theory.proofs.{Columns.lent, Columns.Fit, Endings.Ended, Refilling.Spare, PairDelays.Roundable, SweptPairs.Ready};
+ghost use Rattle.theory.proofs.{Columns.lent, Columns.Fit, Endings.Ended, Refilling.Spare, PairDelays.Roundable, SweptPairs.Ready, SweptPairs.Rounded};
 use crate::columns::CHAIN;
 use crate::columns::Columns;
 use crate::columns::END;
@@ -43,9 +43,7 @@ fn sweep_round<'a, 'b, 'c, 'd, 'e>(
     next: &'e mut [u64; JobSet::MAX_JOBS],
 )
     requires { ⌜ Roundable count (now columns) (now bound) × Ready count (now columns) (now released) (now delay) × Spare count (now next) ⌝ }
-    ensures { λ r.
-        let columns = now (columns .entry) in
-        ⌜ (now (next .exit) ≡ padded maxJobs 0 (Theory·round (lent count columns) (now (bound .entry)))) × Ready count columns (now (released .exit)) (now (delay .exit)) ⌝ }
+    ensures { λ r. ⌜ Rounded count (now (columns .entry)) (now (bound .entry)) (now (released .exit)) (now (delay .exit)) (now (next .exit)) ⌝ }
 {
     let mut last: u64 = 0;
     let mut own: usize = 0;
@@ -80,9 +78,7 @@ pub(crate) fn round<'a, 'b, 'c, 'd, 'e>(
     next: &'e mut [u64; JobSet::MAX_JOBS],
 )
     requires { ⌜ Roundable count (now columns) (now bound) × Ready count (now columns) (now released) (now delay) × Spare count (now next) ⌝ }
-    ensures { λ r.
-        let columns = now (columns .entry) in
-        ⌜ (now (next .exit) ≡ padded maxJobs 0 (Theory·round (lent count columns) (now (bound .entry)))) × Ready count columns (now (released .exit)) (now (delay .exit)) ⌝ }
+    ensures { λ r. ⌜ Rounded count (now (columns .entry)) (now (bound .entry)) (now (released .exit)) (now (delay .exit)) (now (next .exit)) ⌝ }
 {
     if figure(columns, END, 0) == count as u64 {
         start(count, columns, next);

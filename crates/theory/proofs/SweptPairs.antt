@@ -1,5 +1,6 @@
 -- The largest sum over the pairs that end with job j, from the interference on each of them.
 --   Ready     what a sweep is lent: a number for each chain, and no figure
+--   Rounded   the bounds of a round, and what its sweeps were lent is ready again
 --   Pairing   what the walk over the pairs holds with those from k on behind it, their figures cleared
 -- Assumes a table in its limits, and bounds that rise along its chains.
 use Prim.Native.Nat.{ℕ, suc, _+_, _*_, _-_, _≤_, _<_, min, max}
@@ -8,10 +9,11 @@ use mathlib.Core.List.{List, []}
 use native.Mathlib.Omega.{arith}
 use lib.ListN.{length, getD, set, length-set, replicate, length-replicate}
 use lib.Seq.{getD-set-same, getD-set-other}
+use Rattle.laws.specs.Words.{padded}
 use Rattle.laws.proofs.Tests.{by-order, by-equal}
 use Rattle.laws.proofs.Lists.{getD-padded}
 use Rattle.jobs.specs.Limits.{maxJobs, maxTime}
-use Rattle.theory.specs.Bounds.{lowest, overlap}
+use Rattle.theory.specs.Bounds.{lowest, overlap, round}
 use Rattle.theory.proofs.WellFormed.{chain-between}
 use Rattle.theory.proofs.Columns.{figure, lent}
 use Rattle.theory.proofs.Endings.{Ended}
@@ -23,6 +25,9 @@ pub record Ready (count : ℕ) (columns : List (List ℕ)) (numbers delay : List
   pub counted : Counted count columns numbers
   pub room : length delay ≡ maxJobs
   pub clear : (p : ℕ) → getD delay p 0 ≡ 0
+
+abbrev pub Rounded : ℕ → List (List ℕ) → List ℕ → List ℕ → List ℕ → List ℕ → Type 0
+Rounded count columns bound numbers delay next = (next ≡ padded maxJobs 0 (round (lent count columns) bound)) × Ready count columns numbers delay
 
 pub record Pairing (count : ℕ) (columns : List (List ℕ)) (bound : List ℕ) (own j : ℕ) (before : List ℕ) (k sum best : ℕ) (delay : List ℕ) : Type 0 where
   pub above : own ≤ k

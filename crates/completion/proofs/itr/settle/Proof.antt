@@ -53,14 +53,14 @@ returns : tie.Need-returns Inv-loop μ-loop
 returns c =
     let m = c .before in
     let l = head m in
-    rounding-last (table l) (l .loop .inv .0) _ (m .repeats .ensures .1) (sym (m .repeats .ensures .0) ∙ c .if1 .taken)
+    rounding-last (table l) (l .loop .inv .0) _ (m .repeats .ensures .1 .0) (sym (m .repeats .ensures .0) ∙ c .if1 .taken)
 
 -- below `once` is that the first round changed some bound
 add-rounds : tie.Need-add-rounds Inv-loop μ-loop
 add-rounds c =
     let m = c .before in
     let l = head m in
-    let once = rounding-next (table l) (l .loop .inv .0) _ (m .repeats .ensures .1) (sym (m .repeats .ensures .0) ∙ c .if1 .left) in
+    let once = rounding-next (table l) (l .loop .inv .0) _ (m .repeats .ensures .1 .0) (sym (m .repeats .ensures .0) ∙ c .if1 .left) in
     search (needs, rounding-below (table l) once, rounds-small (table l) (begin l .pre .0))
 
 repeats-requires-2 : tie.Need-repeats-requires-2 Inv-loop μ-loop
@@ -69,8 +69,8 @@ repeats-requires-2 c κs =
     let m = e .before in
     let l = head m in
     let s = begin l in
-    let once = rounding-next (table l) (l .loop .inv .0) _ (m .repeats .ensures .1) (sym (m .repeats .ensures .0) ∙ e .if1 .left) in
-    (record { fit = s .pre .0; ended = s .pre .1; rises = rounding-rises (table l) once }, m .repeats .ensures .2, rounding-spare (table l) (l .loop .inv .0) (s .pre .0 .few))
+    let once = rounding-next (table l) (l .loop .inv .0) _ (m .repeats .ensures .1 .0) (sym (m .repeats .ensures .0) ∙ e .if1 .left) in
+    (record { fit = s .pre .0; ended = s .pre .1; rises = rounding-rises (table l) once }, m .repeats .ensures .1 .1, rounding-spare (table l) (l .loop .inv .0) (s .pre .0 .few))
 
 returns-2 : tie.Need-returns-2 Inv-loop μ-loop
 returns-2 c =
@@ -78,8 +78,8 @@ returns-2 c =
     let e = again .before .before .before .before .before in
     let m = e .before in
     let l = head m in
-    let once = rounding-next (table l) (l .loop .inv .0) _ (m .repeats .ensures .1) (sym (m .repeats .ensures .0) ∙ e .if1 .left) in
-    rounding-last (table l) once _ (again .repeats2 .ensures .1) (sym (again .repeats2 .ensures .0) ∙ c .if2 .taken)
+    let once = rounding-next (table l) (l .loop .inv .0) _ (m .repeats .ensures .1 .0) (sym (m .repeats .ensures .0) ∙ e .if1 .left) in
+    rounding-last (table l) once _ (again .repeats2 .ensures .1 .0) (sym (again .repeats2 .ensures .0) ∙ c .if2 .taken)
 
 loop-less : tie.Need-loop-less Inv-loop μ-loop
 loop-less c =
@@ -94,8 +94,8 @@ loop-again c =
     let e = again .before .before .before .before .before in
     let m = e .before in
     let l = head m in
-    let once = rounding-next (table l) (l .loop .inv .0) _ (m .repeats .ensures .1) (sym (m .repeats .ensures .0) ∙ e .if1 .left) in
-    (rounding-next (table l) once _ (again .repeats2 .ensures .1) (sym (again .repeats2 .ensures .0) ∙ c .if2 .left), again .repeats2 .ensures .2, rounding-spare (table l) once (begin l .pre .0 .few))
+    let once = rounding-next (table l) (l .loop .inv .0) _ (m .repeats .ensures .1 .0) (sym (m .repeats .ensures .0) ∙ e .if1 .left) in
+    (rounding-next (table l) once _ (again .repeats2 .ensures .1 .0) (sym (again .repeats2 .ensures .0) ∙ c .if2 .left), again .repeats2 .ensures .1 .1, rounding-spare (table l) once (begin l .pre .0 .few))
 
 pub settle-spec : {M : Type 1} → statement M
 settle-spec =
