@@ -1,6 +1,7 @@
 -- What follows from the bounds; unused places are 0. Document 01, "Bounds", the refusals of a set and of admission, number 10, and document 02, R-3.
 -- Assumes nothing.
-use Rattle.laws.specs.Words.{ℕ, cond, Option, none, some, List, [], eqb, pos}
+use Rattle.std.specs.Prelude.{ℕ, cond, List, [], eqb, pos}
+use Rattle.laws.specs.Words.{Option, none, some}
 use Rattle.jobs.specs.declared.{job.Job.Job, set.JobSet.JobSet, refusal.Refusal.Refusal, refusal.Check.Check}
 use Rattle.jobs.specs.{Refusals.on_pass, Refusals.and_then, Jobs.jobs_of, Jobs.set_of, Checks.check_of, Joins.with_chain, Joins.join_check}
 use Rattle.theory.specs.{Table.table_of, Bounds.ert, Bounds.cja, Bounds.itr, Bounds.slacks, Bounds.meets, Delays.ert_delay, Delays.cja_delay, Delays.itr_delay}

@@ -1,5 +1,5 @@
 // Admission of a further chain.
-ghost use Rattle.laws.specs.Words.{◌≡◌};
+ghost use Rattle.std.specs.Prelude.{◌≡◌};
 ghost use Rattle.analysis.specs.Answers.{admission_of};
 
 use crate::answer::{Admission, Verdict};

@@ -1,5 +1,5 @@
 // The bounds of a set by the algorithm that is asked for.
-ghost use Rattle.laws.specs.Words.{◌≡◌, replicate};
+ghost use Rattle.std.specs.Prelude.{◌≡◌, replicate};
 ghost use Rattle.jobs.specs.{declared.refusal.Check.Check, Limits.max_jobs};
 ghost use Rattle.completion.specs.Answers.{bounds_alone};
 ghost use Rattle.analysis.specs.Answers.{bounds_of};

@@ -1,5 +1,5 @@
 // All figures of a set at once, with one run of ITR.
-ghost use Rattle.laws.specs.Words.{◌≡◌};
+ghost use Rattle.std.specs.Prelude.{◌≡◌};
 ghost use Rattle.analysis.specs.Answers.{figures_of};
 
 use crate::answer::Figures;

@@ -1,4 +1,6 @@
 // What follows from the bounds of a set of jobs: bounds by an algorithm, slack, verdict and admission.
+#![tactic(auto)]
+
 pub mod admission;
 pub mod answer;
 pub mod bounds;

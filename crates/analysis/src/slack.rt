@@ -1,5 +1,6 @@
 // The slack of each job: its deadline less its ITR bound.
-ghost use Rattle.laws.specs.Words.{◌≡◌, ◌≤◌, pos, padded};
+ghost use Rattle.std.specs.Prelude.{◌≡◌, ◌≤◌, pos};
+ghost use Rattle.laws.specs.Words.{padded};
 ghost use Rattle.jobs.specs.{Limits.max_jobs, Limits.max_deadline, Jobs.jobs_of, Checks.check_of};
 ghost use Rattle.theory.specs.Table.{table_of};
 ghost use Rattle.theory.specs.Bounds.{bound_limit, itr as theory_itr, slack as theory_slack, slacks as theory_slacks};

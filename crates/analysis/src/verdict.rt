@@ -1,5 +1,5 @@
 // The verdict: whether each job's bound is at or before its deadline.
-ghost use Rattle.laws.specs.Words.{◌≡◌, cond};
+ghost use Rattle.std.specs.Prelude.{◌≡◌, cond};
 ghost use Rattle.jobs.specs.{Refusals.on_pass, Jobs.jobs_of, Checks.check_of};
 ghost use Rattle.theory.specs.Bounds.{meets};
 ghost use Rattle.analysis.specs.Answers.{verdict_of};

@@ -21,7 +21,7 @@ use Rattle.jobs.specs.Jobs.{job_at, chains_of}
 use Rattle.jobs.proofs.Accepted.{Accepted, accepted}
 use Rattle.jobs.proofs.Chains.{chains-within}
 use Rattle.theory.specs.Table.{table_of}
-use Rattle.theory.specs.Delays.{Block as Theory-as-Block, Delay as Theory-as-Delay, itr_delay}
+use Rattle.theory.specs.Delays.{Block as TheoryBlock, Delay as TheoryDelay, itr_delay}
 use Rattle.completion.specs.declared.answer.Block.{Block}
 use Rattle.completion.specs.declared.answer.Delay.{Delay}
 use Rattle.completion.specs.Delays.{no_block, no_delay, block_named, delay_named, number_in, delays_named}
@@ -57,14 +57,14 @@ no_delay_short =
     record { from = decimal-within 2 0 (omega arith); block = λ i. subst ShortBlock (sym (get_d_padded max_chains no_block [] i)) none_short }
 
 module _ (number : ℕ → ℕ) (short : (i : ℕ) → Short (number i)) where
-  block_short : (b : Theory-as-Block) → ShortBlock (block_named number b)
+  block_short : (b : TheoryBlock) → ShortBlock (block_named number b)
   unfolding block_named
   block_short b =
       by_test (ltb b.first b.end)
       (λ t. rw t (record { first = short b.first; last = short (b.end - 1) }))
       (λ t. rw t none_short)
 
-  delay_short : (d : Theory-as-Delay) → ShortDelay (delay_named number d)
+  delay_short : (d : TheoryDelay) → ShortDelay (delay_named number d)
   unfolding delay_named
   delay_short d =
       record {

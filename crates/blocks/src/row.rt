@@ -1,5 +1,6 @@
 // A row of the text at a place of a buffer, as far as it has room; each function answers the place after what it puts.
-ghost use Rattle.laws.specs.Words.{◌+◌, ◌≤◌, [], ◌∷◌, ◌++◌, length, ascii};
+ghost use Rattle.std.specs.Prelude.{◌+◌, ◌≤◌, [], ◌∷◌, ◌++◌, length};
+ghost use Rattle.laws.specs.Words.{ascii};
 ghost use Rattle.laws.proofs.Clipped.{Put};
 ghost use Rattle.decimal.specs.Digits.{decimal};
 ghost use Rattle.texts.specs.Lines.{lines_text};

@@ -1,5 +1,5 @@
 // The rows of the text: of a job and one chain, of a job, and of all jobs. Each function answers the place after what it puts.
-ghost use Rattle.laws.specs.Words.{◌≡◌, ◌+◌, ◌≤◌, ◌<◌, suc, map, length};
+ghost use Rattle.std.specs.Prelude.{◌≡◌, ◌+◌, ◌≤◌, ◌<◌, suc, map, length};
 ghost use Rattle.laws.proofs.Clipped.{Put};
 ghost use Rattle.jobs.specs.{Limits.max_jobs, Limits.max_chains, Jobs.chains_of, Jobs.jobs_of};
 ghost use Rattle.texts.specs.Lines.{lines_text};

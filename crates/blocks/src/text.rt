@@ -1,5 +1,6 @@
 // The blocks text of a table, by ITR.
-ghost use Rattle.laws.specs.Words.{◌≡◌, ◌≤◌, length, written as the-written-Laws};
+ghost use Rattle.std.specs.Prelude.{◌≡◌, ◌≤◌, length};
+ghost use Rattle.laws.specs.Words.{written as laws_written};
 ghost use Rattle.laws.proofs.Clipped.{Put};
 ghost use Rattle.jobs.specs.{Limits.max_jobs, Limits.max_chains, Jobs.chains_of, Jobs.jobs_of};
 ghost use Rattle.texts.specs.Answers.{answer_to, answer_for, left_for};
@@ -14,7 +15,7 @@ use jobs::set::JobSet;
 use texts::bytes::put_bytes;
 use texts::written::Written;
 
-// Enough for the text of every accepted set, by the theorem `blocks-fit`.
+// Enough for the text of every accepted set, by the theorem `blocks_fit`.
 pub const MAX_BLOCKS_TEXT: usize = 24 * JobSet::MAX_JOBS * Delay::CHAINS;
 
 // Puts as much of the text as the buffer has room for, and answers how many bytes the text takes.
@@ -33,7 +34,7 @@ fn write_blocks(set: JobSet, delays: [Delay; JobSet::MAX_JOBS], out: &mut [u8]) 
     requires count_le_max_jobs { (set.count ≤ max_jobs) × (chains_of (jobs_of set) ≤ max_chains) }
     requires delays_len_bound { length (delays_text (jobs_of set) delays) ≤ max_blocks_text }
     ensures value { result ≡ answer_to (delays_text (jobs_of set) delays) out.old }
-    ensures out_after { out.new ≡ the-written-Laws (delays_text (jobs_of set) delays) out.old }
+    ensures out_after { out.new ≡ laws_written (delays_text (jobs_of set) delays) out.old }
 {
     let length = put_text(set, delays, &mut out[..0]);
     if out.len() < length {

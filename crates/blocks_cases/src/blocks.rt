@@ -1,56 +1,56 @@
 // What delays the jobs of a set.
-use crate::print::{print, print_number};
+use crate::print::print_number;
 use analysis::bounds::bounds;
 use completion::answer::{Bounds, Delay};
 use jobs::last::last_of;
 use jobs::refusal::Check;
 use jobs::set::JobSet;
+use std::io;
+use streams::print;
 
 // The first and the last job of the block of the chain after the first n.
-fn print_block(delay: Delay, n: usize) {
+fn print_block<R: Print>(rt: &R, delay: Delay, n: usize) -> io::Result<()> {
     if n < Delay::CHAINS {
         let block = delay.blocks[n];
-        print(b",");
-        print_number(block.first as u64);
-        print(b"-");
-        print_number(block.last as u64);
+        print(rt, b",")?;
+        print_number(rt, block.first as u64)?;
+        print(rt, b"-")?;
+        print_number(rt, block.last as u64)?;
     }
+    Ok(())
 }
 
 // The job from which the sum begins, and the block of each chain.
-fn print_delay(delay: Delay, chains: usize) {
-    print(b" ");
-    print_number(delay.from as u64);
-    let mut n: usize = 0;
-    while n < chains {
-        print_block(delay, n);
-        n += 1;
+fn print_delay<R: Print>(rt: &R, delay: Delay, chains: usize) -> io::Result<()> {
+    print(rt, b" ")?;
+    print_number(rt, delay.from as u64)?;
+    for n in 0..chains {
+        print_block(rt, delay, n)?;
     }
+    Ok(())
 }
 
-fn print_delays(answer: Bounds, count: usize, chains: usize) {
-    let mut place: usize = 0;
-    while place < count {
+fn print_delays<R: Print>(rt: &R, answer: Bounds, count: usize, chains: usize) -> io::Result<()> {
+    for place in 0..count {
         if place < JobSet::MAX_JOBS {
-            print_delay(answer.delays[place], chains);
+            print_delay(rt, answer.delays[place], chains)?;
         }
-        place += 1;
     }
+    Ok(())
 }
 
 // What delays each job by an algorithm.
-pub(crate) fn print_by(set: JobSet, algorithm: u64) {
-    print(b" by ");
-    print_number(algorithm);
+pub(crate) fn print_by<R: Print>(rt: &R, set: JobSet, algorithm: u64) -> io::Result<()> {
+    print(rt, b" by ")?;
+    print_number(rt, algorithm)?;
     let answer = bounds(set, algorithm);
     let check = answer.check;
     if let Check::Refused(refusal) = check {
-        print(b" refused,");
-        print_number(refusal.number() as u64);
-        return;
+        print(rt, b" refused,")?;
+        return print_number(rt, refusal.number() as u64);
     }
     let last = last_of(set);
     let chains = last.chain as usize;
     let count = set.count;
-    print_delays(answer, count, chains);
+    print_delays(rt, answer, count, chains)
 }

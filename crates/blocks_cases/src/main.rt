@@ -1,33 +1,30 @@
 // Prints a line for each case named as an argument: its name, and what delays each job of the table kept under it, by algorithm 1 to 4.
+#![tactic(auto)]
+
 mod blocks;
 mod print;
 
 use crate::blocks::print_by;
-use crate::print::print;
 use kept_tables::set_of;
+use std::rt::Files;
+use std::{env, io};
+use streams::{argument, print};
 
-fn print_case(name: &[u8]) {
-    print(name);
-    print(b":");
-    let set = set_of(name);
-    print_by(set, 1);
-    print_by(set, 2);
-    print_by(set, 3);
-    print_by(set, 4);
-    print(b"\n");
+fn print_case<R: Files + Print>(rt: &R, name: &[u8]) -> io::Result<()> {
+    print(rt, name)?;
+    print(rt, b":")?;
+    let set = set_of(rt, name)?;
+    print_by(rt, set, 1)?;
+    print_by(rt, set, 2)?;
+    print_by(rt, set, 3)?;
+    print_by(rt, set, 4)?;
+    print(rt, b"\n")
 }
 
-fn print_argument(i: usize) {
-    let mut name = [0u8; 64];
-    let length = os::arg(i, &mut name);
-    print_case(&name[..length]);
-}
-
-fn main() {
-    let count = os::arg_count();
-    let mut i: usize = 1;
-    while i < count {
-        print_argument(i);
-        i += 1;
+fn main(rt: HostRuntime) -> io::Result<()> {
+    let arguments: Vec<String> = env::args(&rt)?.collect(rt.alloc())?;
+    for i in 1..arguments.len() {
+        print_case(&rt, argument(&arguments, i))?;
     }
+    Ok(())
 }

@@ -1,10 +1,7 @@
 // Writing to standard output.
-use libc::STDOUT_FILENO;
+use std::io;
+use streams::print;
 
-pub(crate) fn print(text: &[u8]) {
-    io::write_all(STDOUT_FILENO, text);
-}
-
-pub(crate) fn print_number(value: u64) {
-    io::print_decimal(STDOUT_FILENO, value);
+pub(crate) fn print_number<R: Print>(rt: &R, value: u64) -> io::Result<()> {
+    rt.print(value)
 }

@@ -1,27 +1,33 @@
 // A further chain asks to come aboard.
 use crate::bounds::print_verdict;
-use crate::print::print;
 use crate::sets::print_set;
 use analysis::admission::admit;
 use jobs::set::JobSet;
 use kept_tables::set_of;
+use std::io;
+use std::rt::Files;
+use streams::print;
 
-fn print_admitted(old: JobSet, new: JobSet, algorithm: u64) {
+fn print_admitted<R: Print>(rt: &R, old: JobSet, new: JobSet, algorithm: u64) -> io::Result<()> {
     let admission = admit(old, new, algorithm);
     let verdict = admission.verdict;
-    print_verdict(verdict);
-    print(b" ");
+    print_verdict(rt, verdict)?;
+    print(rt, b" ")?;
     let set = admission.set;
-    print_set(set);
-    print(b";");
+    print_set(rt, set)?;
+    print(rt, b";")
 }
 
 // The chain of one file asks to join the set of another.
-pub(crate) fn print_admission(old_name: &[u8], new_name: &[u8]) {
-    let old = set_of(old_name);
-    let new = set_of(new_name);
-    print_admitted(old, new, 1);
-    print_admitted(old, new, 2);
-    print_admitted(old, new, 3);
-    print_admitted(old, new, 4);
+pub(crate) fn print_admission<R: Files + Print>(
+    rt: &R,
+    old_name: &[u8],
+    new_name: &[u8],
+) -> io::Result<()> {
+    let old = set_of(rt, old_name)?;
+    let new = set_of(rt, new_name)?;
+    print_admitted(rt, old, new, 1)?;
+    print_admitted(rt, old, new, 2)?;
+    print_admitted(rt, old, new, 3)?;
+    print_admitted(rt, old, new, 4)
 }

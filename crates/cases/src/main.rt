@@ -2,7 +2,7 @@
 //   reading/NAME     what reading the file comes to
 //   bounds/NAME      rounds, verdicts by algorithm 1 to 4, and the bounds and slack of the last jobs
 //   admission/NAME   what the chain of the next argument, with/NAME, comes to that asks to join, by algorithm 1 to 4
-ghost use Rattle.std.specs.Prelude.{◌+◌, ◌<◌, ◌^◌};
+#![tactic(auto)]
 
 mod admission;
 mod bounds;
@@ -11,47 +11,38 @@ mod sets;
 
 use crate::admission::print_admission;
 use crate::bounds::print_bounds;
-use crate::print::print;
 use crate::sets::print_reading;
+use std::rt::Files;
+use std::{env, io};
+use streams::{argument, print};
 
 // The first letter of the name tells what is asked.
-fn print_case(name: &[u8], next: &[u8]) {
+fn print_case<R: Files + Print>(rt: &R, name: &[u8], next: &[u8]) -> io::Result<()> {
     if name.len() == 0 {
-        return;
+        return Ok(());
     }
     let kind = name[0];
     if kind == b'w' {
-        return;
+        return Ok(());
     }
-    print(name);
-    print(b":");
+    print(rt, name)?;
+    print(rt, b":")?;
     if kind == b'r' {
-        print_reading(name);
+        print_reading(rt, name)?;
     }
     if kind == b'b' {
-        print_bounds(name);
+        print_bounds(rt, name)?;
     }
     if kind == b'a' {
-        print_admission(name, next);
+        print_admission(rt, name, next)?;
     }
-    print(b"\n");
+    print(rt, b"\n")
 }
 
-fn print_argument(i: usize)
-    requires { i + 1 < 2 ^ 64 }
-{
-    let mut name = [0u8; 64];
-    let length = os::arg(i, &mut name);
-    let mut next = [0u8; 64];
-    let next_length = os::arg(i + 1, &mut next);
-    print_case(&name[..length], &next[..next_length]);
-}
-
-fn main() {
-    let count = os::arg_count();
-    let mut i: usize = 1;
-    while i < count {
-        print_argument(i);
-        i += 1;
+fn main(rt: HostRuntime) -> io::Result<()> {
+    let arguments: Vec<String> = env::args(&rt)?.collect(rt.alloc())?;
+    for i in 1..arguments.len() {
+        print_case(&rt, argument(&arguments, i), argument(&arguments, i + 1))?;
     }
+    Ok(())
 }

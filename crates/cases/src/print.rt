@@ -1,45 +1,43 @@
 // Writing to standard output.
 use jobs::job::Job;
 use jobs::refusal::Refusal;
-use libc::STDOUT_FILENO;
+use std::io;
+use streams::print;
 
-pub(crate) fn print(text: &[u8]) {
-    io::write_all(STDOUT_FILENO, text);
+pub(crate) fn print_number<R: Print>(rt: &R, value: u64) -> io::Result<()> {
+    rt.print(value)
 }
 
-pub(crate) fn print_number(value: u64) {
-    io::print_decimal(STDOUT_FILENO, value);
+pub(crate) fn print_column<R: Print>(rt: &R, value: u64) -> io::Result<()> {
+    print(rt, b",")?;
+    print_number(rt, value)
 }
 
-pub(crate) fn print_column(value: u64) {
-    print(b",");
-    print_number(value);
-}
-
-fn print_text(value: i64, line: &mut [u8]) {
+fn print_text<R: Print>(rt: &R, value: i64, line: &mut [u8]) -> io::Result<()> {
     let length = decimal::signed::write_signed(value, line);
     if length <= line.len() {
-        print(&line[..length]);
+        print(rt, &line[..length])?;
     }
+    Ok(())
 }
 
-pub(crate) fn print_signed(value: i64) {
+pub(crate) fn print_signed<R: Print>(rt: &R, value: i64) -> io::Result<()> {
     let mut line = [0u8; 32];
-    print_text(value, &mut line);
+    print_text(rt, value, &mut line)
 }
 
-pub(crate) fn print_refused(refusal: Refusal) {
-    print(b"refused,");
-    print_number(refusal.number() as u64);
+pub(crate) fn print_refused<R: Print>(rt: &R, refusal: Refusal) -> io::Result<()> {
+    print(rt, b"refused,")?;
+    print_number(rt, refusal.number() as u64)
 }
 
 // A job in the order of the columns.
-pub(crate) fn print_job(job: Job) {
-    print_number(job.chain);
-    print_column(job.job);
-    print_column(job.release);
-    print_column(job.priority);
-    print_column(job.least);
-    print_column(job.most);
-    print_column(job.deadline);
+pub(crate) fn print_job<R: Print>(rt: &R, job: Job) -> io::Result<()> {
+    print_number(rt, job.chain)?;
+    print_column(rt, job.job)?;
+    print_column(rt, job.release)?;
+    print_column(rt, job.priority)?;
+    print_column(rt, job.least)?;
+    print_column(rt, job.most)?;
+    print_column(rt, job.deadline)
 }

@@ -1,31 +1,35 @@
 // Sets as they are read.
-use crate::print::{print, print_job, print_number, print_refused};
+use crate::print::{print_job, print_number, print_refused};
 use jobs::refusal::Check;
 use jobs::set::JobSet;
 use kept_tables::read_file;
+use std::io;
+use std::rt::Files;
+use streams::print;
 
 // How many jobs there are, and the last of them.
-pub(crate) fn print_set(set: JobSet) {
+pub(crate) fn print_set<R: Print>(rt: &R, set: JobSet) -> io::Result<()> {
     let count = set.count;
-    print_number(count as u64);
+    print_number(rt, count as u64)?;
     if 0 < count {
         if count <= JobSet::MAX_JOBS {
-            print(b", the last ");
-            print_job(set.jobs[count - 1]);
+            print(rt, b", the last ")?;
+            print_job(rt, set.jobs[count - 1])?;
         }
     }
+    Ok(())
 }
 
-pub(crate) fn print_reading(name: &[u8]) {
-    print(b" ");
-    let reading = read_file(name);
+pub(crate) fn print_reading<R: Files + Print>(rt: &R, name: &[u8]) -> io::Result<()> {
+    print(rt, b" ")?;
+    let reading = read_file(rt, name)?;
     let check = reading.check;
     match check {
-        Check::Refused(refusal) => print_refused(refusal),
+        Check::Refused(refusal) => print_refused(rt, refusal),
         Check::Passed => {
-            print(b"accepted ");
+            print(rt, b"accepted ")?;
             let set = reading.set;
-            print_set(set);
+            print_set(rt, set)
         }
     }
 }

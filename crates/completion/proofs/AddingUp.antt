@@ -19,7 +19,7 @@ use Rattle.jobs.specs.Jobs.{job_at}
 use Rattle.jobs.proofs.Accepted.{Accepted}
 use Rattle.jobs.proofs.Places.{numbers_rise}
 use Rattle.theory.specs.Table.{Table, table_of}
-use Rattle.theory.specs.Delays.{Block as Theory-as-Block, no_block as theory_noBlock, IsBlock, block_sum, delay_sum, Names}
+use Rattle.theory.specs.Delays.{Block as TheoryBlock, no_block as theory_no_block, IsBlock, block_sum, delay_sum, Names}
 use Rattle.theory.proofs.TakenBlock.{no_block_sum}
 use Rattle.completion.specs.declared.answer.Block.{Block}
 use Rattle.completion.specs.Delays.{no_block, block_named, number_in}
@@ -45,7 +45,7 @@ module _ (js : List Job) (ok : Accepted js) (w : ℕ → ℕ) where
       let both = and_left (chain && low) high e in
       (eqb-true (job_at js u).chain c (and_left chain low both), leb-true block.first (job_at js u).job (and_right chain low both), leb-true (job_at js u).job block.last (and_right (chain && low) high e))
 
-  module _ (c target : ℕ) (b : Theory-as-Block) (is : IsBlock t c target b) where
+  module _ (c target : ℕ) (b : TheoryBlock) (is : IsBlock t c target b) where
     abbrev block : Block
     block = record { first = number_in js b.first; last = number_in js (b.end - 1) }
 
@@ -112,12 +112,12 @@ module _ (js : List Job) (ok : Accepted js) (w : ℕ → ℕ) where
       (λ e. absurd (omega (arith, numbered u l, (is_named_lem c no_block u e).2)))
       (λ e. rw e))
 
-  empty_sum : (b : Theory-as-Block) → b.end ≤ b.first → block_sum w b ≡ 0
+  empty_sum : (b : TheoryBlock) → b.end ≤ b.first → block_sum w b ≡ 0
   unfolding block_sum
   empty_sum b empty = sum_zero (b.end - b.first) (λ i. w (b.first + i)) (λ i l. absurd (omega arith))
 
   -- the sum over the jobs that are named is the block's
-  module _ {own target : ℕ} {block : ℕ → Theory-as-Block} (names : Names t own target w block) where
+  module _ {own target : ℕ} {block : ℕ → TheoryBlock} (names : Names t own target w block) where
     block_sum_lem : (c : ℕ) → named_sum js w c (block_named (number_in js) (block c)) ≡ block_sum w (block c)
     unfolding block_named
     block_sum_lem c =
@@ -125,14 +125,14 @@ module _ (js : List Job) (ok : Accepted js) (w : ℕ → ℕ) where
         by_order b.end b.first
         (λ empty. rw (le-ltb b.first b.end empty) (none_sum c ∙ sym (empty_sum b empty)))
         (λ some.
-        let filled : b ≢ theory_noBlock = λ e. omega (arith, some, ap (λ (x : Theory-as-Block). x.end) e) in
-        let other : c ≢ own = λ e. filled (subst (λ (x : ℕ). block x ≡ theory_noBlock) (sym e) names.own_none) in
+        let filled : b ≢ theory_no_block = λ e. omega (arith, some, ap (λ (x : TheoryBlock). x.end) e) in
+        let other : c ≢ own = λ e. filled (subst (λ (x : ℕ). block x ≡ theory_no_block) (sym e) names.own_none) in
         rw (lt-ltb b.first b.end some) (some_sum c target b (names.taken c other filled).is_block))
 
     -- a chain of which there is no job adds nothing
     absent : (c : ℕ) → ((u : ℕ) → u < length js → (job_at js u).chain ≢ c) → block_sum w (block c) ≡ 0
     absent c h =
-        let none : block c ≡ theory_noBlock
+        let none : block c ≡ theory_no_block
         = by_equal c own
         (λ e. rw e names.own_none)
         (λ ne. (names.none c ne).1 (λ u l e. absurd (h u l e))) in

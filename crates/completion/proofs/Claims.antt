@@ -16,7 +16,7 @@ use Rattle.jobs.proofs.Accepted.{Accepted, accepted}
 use Rattle.jobs.proofs.Places.{place_found}
 use Rattle.theory.specs.Table.{Table, table_of}
 use Rattle.theory.specs.Bounds.{ert, cja, overlap, itr}
-use Rattle.theory.specs.Delays.{Delay as Theory-as-Delay, ert_begin, ByErt, ByPair, counts, ert_delay, cja_delay, itr_delay}
+use Rattle.theory.specs.Delays.{Delay as TheoryDelay, ert_begin, ByErt, ByPair, counts, ert_delay, cja_delay, itr_delay}
 use Rattle.theory.proofs.Rules.{always}
 use Rattle.theory.proofs.Claims as theory
 use Rattle.completion.specs.declared.answer.Delay.{Delay}
@@ -31,13 +31,13 @@ module _ (js : List Job) (ok : Accepted js) where
   t = table_of js
 
   -- the delay of a job in the answer
-  delay_at_lem : (delay : ℕ → Theory-as-Delay) (j : ℕ) → j < length js → get_or (padded max_jobs no_delay (delays_named js delay)) j no_delay ≡ delay_named (number_in js) (delay j)
+  delay_at_lem : (delay : ℕ → TheoryDelay) (j : ℕ) → j < length js → get_or (padded max_jobs no_delay (delays_named js delay)) j no_delay ≡ delay_named (number_in js) (delay j)
   unfolding delays_named
   delay_at_lem delay j l =
       let named : ℕ → Delay = λ i. delay_named (number_in js) (delay i) in
       get_d_padded max_jobs no_delay (tabulate 0 (length js) named) j ∙ get_d_tabulate 0 (length js) named no_delay j l ∙ ap named (zero-add j)
 
-  pair_adds_up : (keep : ℕ → ℕ → ℕ → Bool) (bounds : List ℕ) (delay : ℕ → Theory-as-Delay) → ((j : ℕ) → j < length js → ByPair t keep j (number_at bounds j) (delay j))
+  pair_adds_up : (keep : ℕ → ℕ → ℕ → Bool) (bounds : List ℕ) (delay : ℕ → TheoryDelay) → ((j : ℕ) → j < length js → ByPair t keep j (number_at bounds j) (delay j))
       → PairAddsUp js keep (padded max_jobs no_delay (delays_named js delay)) (padded max_jobs 0 bounds)
   unfolding delay_named
   pair_adds_up keep bounds delay by j l =

@@ -18,7 +18,7 @@ use Rattle.jobs.specs.Jobs.{jobs_of}
 use Rattle.jobs.proofs.Sets.{length_jobs}
 use Rattle.theory.specs.Table.{Table, table_of}
 use Rattle.theory.specs.Bounds.{cja_with, overlap, round, itr}
-use Rattle.theory.specs.Delays.{Block as Theory-as-Block, no_block as theory_noBlock, Delay as Theory-as-Delay, delay_at, ert_delay, cja_delay, itr_delay}
+use Rattle.theory.specs.Delays.{Block as TheoryBlock, no_block as theory_no_block, Delay as TheoryDelay, delay_at, ert_delay, cja_delay, itr_delay}
 use Rattle.theory.proofs.Rules.{always, at_cja}
 use Rattle.theory.proofs.Settling.{itr_fixed}
 use Rattle.theory.proofs.Columns.{lent, column, Fit}
@@ -35,7 +35,7 @@ use Rattle.completion.proofs.Rounding.{round-padded}
 
 -- ---- one block
 module _ (number : ℕ → ℕ) where
-  pub named_none : block_named number theory_noBlock ≡ no_block
+  pub named_none : block_named number theory_no_block ≡ no_block
   unfolding block_named
   named_none = refl
 
@@ -44,19 +44,19 @@ module _ (number : ℕ → ℕ) where
   named_some first end l = rw (lt-ltb first end l)
 
 -- ---- numbers that agree on a table's places name the same
-pub record Within (count : ℕ) (d : Theory-as-Delay) : Type 0 where
+pub record Within (count : ℕ) (d : TheoryDelay) : Type 0 where
   pub from : d.from < count
   pub blocks : (c : ℕ) → (d.block c).end ≤ count
 
 module _ (f g : ℕ → ℕ) (count : ℕ) (h : (i : ℕ) → i < count → f i ≡ g i) where
-  block_same : (b : Theory-as-Block) → b.end ≤ count → block_named f b ≡ block_named g b
+  block_same : (b : TheoryBlock) → b.end ≤ count → block_named f b ≡ block_named g b
   unfolding block_named
   block_same b l =
       by_order b.end b.first
       (λ none. rw (le-ltb b.first b.end none))
       (λ some. rw (lt-ltb b.first b.end some, h b.first (omega arith), h (b.end - 1) (omega arith)))
 
-  named_same : (d : Theory-as-Delay) → Within count d → delay_named f d ≡ delay_named g d
+  named_same : (d : TheoryDelay) → Within count d → delay_named f d ≡ delay_named g d
   unfolding delay_named
   named_same d within =
       let blocks : tabulate 1 max_chains (λ c. block_named f (d.block c)) ≡ tabulate 1 max_chains (λ c. block_named g (d.block c))
@@ -91,7 +91,7 @@ module _ (set : JobSet) (columns : List (List ℕ)) (agree : Agree (lent set.cou
   abbrev js : List Job
   js = jobs_of set
 
-  abbrev listed : (ℕ → Theory-as-Delay) → List Delay
+  abbrev listed : (ℕ → TheoryDelay) → List Delay
   listed delay = tabulate 0 set.count (λ j. delay_named (number_at numbers) (delay j))
 
   figures : SameFigures s (table_of js)
@@ -100,7 +100,7 @@ module _ (set : JobSet) (columns : List (List ℕ)) (agree : Agree (lent set.cou
   number_at_lem : (i : ℕ) → i < set.count → number_at numbers i ≡ number_in js i
   number_at_lem i l = ap (λ (l : List ℕ). get_or l i 0) are ∙ filled_at max_jobs 0 (number_in js) set.count i l
 
-  all_same : (d e : ℕ → Theory-as-Delay) → ((j : ℕ) → j < set.count → Within set.count (d j)) → ((j : ℕ) → j < set.count → d j ≡ e j) → listed d ≡ delays_named js e
+  all_same : (d e : ℕ → TheoryDelay) → ((j : ℕ) → j < set.count → Within set.count (d j)) → ((j : ℕ) → j < set.count → d j ≡ e j) → listed d ≡ delays_named js e
   unfolding delays_named
   all_same d e within same =
       tabulate_ext 0 set.count _ _ (λ j a l.

@@ -1,5 +1,6 @@
 -- The answers of the bounds, whose unused places are 0. Document 01, "Bounds", the refusals of a set, and document 02, R-3. Assumes nothing.
-use Rattle.laws.specs.Words.{List, [], replicate, padded}
+use Rattle.std.specs.Prelude.{List, [], replicate}
+use Rattle.laws.specs.Words.{padded}
 use Rattle.jobs.specs.declared.{set.JobSet.JobSet, refusal.Refusal.Refusal, refusal.Check.Check}
 use Rattle.jobs.specs.{Limits.max_jobs, Refusals.on_pass, Jobs.jobs_of, Checks.check_of}
 use Rattle.theory.specs.{Table.table_of, Bounds.ert, Bounds.cja, Bounds.itr, Delays.ert_delay, Delays.cja_delay, Delays.itr_delay}

@@ -1,6 +1,7 @@
 -- What is proved of the answers for every accepted set: a planner with the table and an answer adds up each bound by hand, as the names in it say.
 -- proofs/Claims.antt has the proof of all. Document 02, R-3. Assumes nothing.
-use Rattle.laws.specs.Words.{ℕ, suc, ◌+◌, ◌<◌, ◌≡◌, Bool, true, cond, ◌&&◌, List, leb, eqb, length, get_or, number_at, sum_below}
+use Rattle.std.specs.Prelude.{ℕ, suc, ◌+◌, ◌<◌, ◌≡◌, Bool, true, cond, ◌&&◌, List, leb, eqb, length, get_or}
+use Rattle.laws.specs.Words.{number_at, sum_below}
 use Rattle.jobs.specs.declared.{job.Job.Job, set.JobSet.JobSet, refusal.Check.Check}
 use Rattle.jobs.specs.{Limits.max_chains, Jobs.job_at, Jobs.place_in, Jobs.jobs_of, Checks.check_of}
 use Rattle.theory.specs.{Table.table_of, Bounds.demand, Bounds.overlap, Delays.counts, Delays.ert_begin}

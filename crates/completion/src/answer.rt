@@ -1,12 +1,12 @@
 // The bounds of a set and what they come from. Each answer says first whether the set was refused.
-ghost use Rattle.laws.specs.Words.{◌≡◌};
+ghost use Rattle.std.specs.Prelude.{◌≡◌};
 ghost use Rattle.completion.specs.{Delays.no_block, Delays.no_delay, Answers.refused_bounds};
 
 use jobs::refusal::{Check, Refusal};
 use jobs::set::JobSet;
 
 // The jobs of one chain that delay a job, by the numbers of the first and the last of them; 0 and 0 where there is none.
-#[derive(Drop)]
+#[derive(Clone, Copy)]
 pub struct Block {
     pub first: u16,
     pub last: u16,
@@ -21,7 +21,7 @@ impl Block {
 }
 
 // What a bound comes from: the number of the job from which its sum begins, and the blocks of chains 1, 2, and so on, none of the job's own.
-#[derive(Drop)]
+#[derive(Clone, Copy)]
 pub struct Delay {
     pub from: u16,
     pub blocks: [Block; Delay::CHAINS],
@@ -42,7 +42,7 @@ impl Delay {
 }
 
 // A bound for each job and what it comes from, 0 in the places beyond; on a refusal all are 0.
-#[derive(Drop)]
+#[derive(Clone, Copy)]
 pub struct Bounds {
     pub check: Check,
     pub bounds: [u64; JobSet::MAX_JOBS],
@@ -67,7 +67,7 @@ impl Bounds {
 }
 
 // The same, and the rounds with the last one.
-#[derive(Drop)]
+#[derive(Clone, Copy)]
 pub struct Itr {
     pub check: Check,
     pub bounds: [u64; JobSet::MAX_JOBS],
@@ -76,14 +76,14 @@ pub struct Itr {
 }
 
 // The bounds alone, for whoever prints no names.
-#[derive(Drop)]
+#[derive(Clone, Copy)]
 pub struct BoundsAlone {
     pub check: Check,
     pub bounds: [u64; JobSet::MAX_JOBS],
 }
 
 // Bounds and rounds alone.
-#[derive(Drop)]
+#[derive(Clone, Copy)]
 pub struct ItrAlone {
     pub check: Check,
     pub bounds: [u64; JobSet::MAX_JOBS],

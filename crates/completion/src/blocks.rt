@@ -1,5 +1,6 @@
 // The blocks that the interference on a target takes, one of each other chain.
-ghost use Rattle.laws.specs.Words.{◌≡◌, number_at, tabulate};
+ghost use Rattle.std.specs.Prelude.{◌≡◌};
+ghost use Rattle.laws.specs.Words.{number_at, tabulate};
 ghost use Rattle.jobs.specs.Limits.{max_chains};
 ghost use Rattle.theory.specs.Delays.{blocks_on};
 ghost use Rattle.theory.proofs.{Columns.lent, Columns.Fit, Endings.Ended, Weights.spanned};

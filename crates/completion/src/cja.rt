@@ -1,5 +1,5 @@
 // The CJA bounds.
-ghost use Rattle.laws.specs.Words.{◌≡◌};
+ghost use Rattle.std.specs.Prelude.{◌≡◌};
 ghost use Rattle.completion.specs.Answers.{cja_of, bounds_alone};
 
 use crate::answer::{Bounds, BoundsAlone};

@@ -1,5 +1,6 @@
 // What the bounds of all jobs come from.
-ghost use Rattle.laws.specs.Words.{◌≡◌, ◌<◌, number_at, tabulate, padded};
+ghost use Rattle.std.specs.Prelude.{◌≡◌, ◌<◌};
+ghost use Rattle.laws.specs.Words.{number_at, tabulate, padded};
 ghost use Rattle.jobs.specs.{Limits.max_jobs, Jobs.jobs_of, Checks.check_of};
 ghost use Rattle.theory.specs.{Bounds.overlap, Bounds.round as theory_round, Delays.delay_at, Delays.ert_delay};
 ghost use Rattle.theory.proofs.{Columns.lent, Columns.column, Columns.Fit, Endings.Ended, Pairs.round_at};

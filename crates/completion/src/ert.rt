@@ -1,5 +1,6 @@
 // The ERT bounds.
-ghost use Rattle.laws.specs.Words.{◌≡◌, padded};
+ghost use Rattle.std.specs.Prelude.{◌≡◌};
+ghost use Rattle.laws.specs.Words.{padded};
 ghost use Rattle.jobs.specs.Limits.{max_jobs};
 ghost use Rattle.theory.specs.Bounds.{ert as theory_ert};
 ghost use Rattle.completion.specs.Answers.{ert_of, bounds_alone};

@@ -1,5 +1,5 @@
 // The first pair that gives a bound.
-ghost use Rattle.laws.specs.Words.{◌≡◌, ◌≤◌, ◌<◌};
+ghost use Rattle.std.specs.Prelude.{◌≡◌, ◌≤◌, ◌<◌};
 ghost use Rattle.jobs.specs.Limits.{max_jobs};
 ghost use Rattle.theory.specs.{Bounds.lowest, Bounds.overlap, Delays.first_pair};
 ghost use Rattle.theory.proofs.{Columns.lent, Columns.Fit, Endings.Ended, Pairs.round_at, FirstPairs.earlier as theory_earlier};

@@ -1,5 +1,5 @@
 // How long the jobs of other chains can hold up a pair, chain by chain.
-ghost use Rattle.laws.specs.Words.{◌≡◌};
+ghost use Rattle.std.specs.Prelude.{◌≡◌};
 ghost use Rattle.theory.specs.Bounds.{interference as theory_interference};
 ghost use Rattle.theory.proofs.{Columns.lent, Columns.Fit, Endings.Ended, Weights.spanned};
 

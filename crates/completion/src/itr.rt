@@ -1,5 +1,6 @@
 // The ITR bounds, and the number of rounds that they take.
-ghost use Rattle.laws.specs.Words.{◌≡◌, ◌≤◌, same_up_to, padded};
+ghost use Rattle.std.specs.Prelude.{◌≡◌, ◌≤◌};
+ghost use Rattle.laws.specs.Words.{same_up_to, padded};
 ghost use Rattle.jobs.specs.Limits.{max_jobs};
 ghost use Rattle.theory.specs.Bounds.{itr as theory_itr};
 ghost use Rattle.completion.specs.Answers.{itr_of, itr_alone};

@@ -1,4 +1,6 @@
 // The bounds of a set of jobs, by ERT, CJA and ITR, and what they come from.
+#![tactic(auto)]
+
 pub mod answer;
 mod block;
 mod blocks;

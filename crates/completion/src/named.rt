@@ -1,5 +1,5 @@
 // The bounds of a set with what they come from: the bounds alone, and a pass of its own that names.
-ghost use Rattle.laws.specs.Words.{◌≡◌};
+ghost use Rattle.std.specs.Prelude.{◌≡◌};
 ghost use Rattle.completion.specs.Answers.{ert_of, cja_of, itr_of};
 
 use crate::answer::{Bounds, Delay, Itr};

@@ -1,5 +1,5 @@
 // The larger and the lower of two numbers.
-ghost use Rattle.laws.specs.Words.{◌≡◌, max, min};
+ghost use Rattle.std.specs.Prelude.{◌≡◌, max, min};
 
 pub(crate) fn larger(a: u64, b: u64) -> u64
     ensures { result ≡ max a b }

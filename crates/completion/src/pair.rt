@@ -1,5 +1,5 @@
 // The largest sum over the pairs that end with one job.
-ghost use Rattle.laws.specs.Words.{◌≡◌, ◌<◌};
+ghost use Rattle.std.specs.Prelude.{◌≡◌, ◌<◌};
 ghost use Rattle.theory.proofs.{Columns.lent, Columns.Fit, Endings.Ended, Pairs.round_at, PairDelays.Pairable, SweptPairs.Ready};
 
 use crate::columns::{CHAIN, Columns, EARLIEST, LATEST, MOST, URGENCY, figure};

@@ -1,5 +1,5 @@
 // What a job takes over from its predecessor, where it has one.
-ghost use Rattle.laws.specs.Words.{◌≡◌};
+ghost use Rattle.std.specs.Prelude.{◌≡◌};
 ghost use Rattle.theory.proofs.Predecessors.{not_before};
 
 use crate::number::larger;

@@ -1,5 +1,6 @@
 // One round: CJA for all jobs, where only jobs whose spans overlap count.
-ghost use Rattle.laws.specs.Words.{◌≡◌, ◌≤◌, padded};
+ghost use Rattle.std.specs.Prelude.{◌≡◌, ◌≤◌};
+ghost use Rattle.laws.specs.Words.{padded};
 ghost use Rattle.jobs.specs.Limits.{max_jobs};
 ghost use Rattle.theory.specs.Bounds.{round as theory_round};
 ghost use Rattle.theory.proofs.{Columns.lent, Columns.Fit, Endings.Ended, Refilling.Spare, PairDelays.Roundable, SweptPairs.Ready, SweptPairs.Rounded};

@@ -1,5 +1,6 @@
 // The bounds that ITR starts from: the ERT rule with interference 0.
-ghost use Rattle.laws.specs.Words.{◌≡◌, padded};
+ghost use Rattle.std.specs.Prelude.{◌≡◌};
+ghost use Rattle.laws.specs.Words.{padded};
 ghost use Rattle.jobs.specs.Limits.{max_jobs};
 ghost use Rattle.theory.specs.Bounds.{itr_start};
 ghost use Rattle.theory.proofs.{Columns.lent, Columns.Fit, Refilling.Spare};

@@ -1,5 +1,6 @@
 // The block that the interference takes of one chain.
-ghost use Rattle.laws.specs.Words.{◌≡◌, ◌+◌, ◌-◌, ◌^◌, ◌≤◌, ◌<◌, ◌&&◌, eqb, ltb, number_at};
+ghost use Rattle.std.specs.Prelude.{◌≡◌, ◌+◌, ◌-◌, ◌^◌, ◌≤◌, ◌<◌, ◌&&◌, eqb, ltb};
+ghost use Rattle.laws.specs.Words.{number_at};
 ghost use Rattle.jobs.specs.Limits.{max_jobs};
 ghost use Rattle.theory.specs.Delays.{taken_block};
 ghost use Rattle.theory.proofs.{Columns.lent, Columns.Fit, Endings.First, Endings.EndsAt, Weights.spanned, Scans.start_next};

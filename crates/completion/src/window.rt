@@ -1,5 +1,5 @@
 // The window of a chain in a pair: the jobs whose spans overlap the pair's stand together, and their largest block is found from the right.
-ghost use Rattle.laws.specs.Words.{◌≡◌, cond, ◌≤◌, ◌<◌, min, ltb};
+ghost use Rattle.std.specs.Prelude.{◌≡◌, cond, ◌≤◌, ◌<◌, min, ltb};
 ghost use Rattle.jobs.specs.Limits.{max_jobs};
 ghost use Rattle.theory.proofs.ChainWindow.{Climbs, Released, Late, SweptIn, WholeIn, Chained, urgencies_in, releases_in};
 
@@ -9,7 +9,7 @@ use crate::number::{larger, lower};
 use jobs::set::JobSet;
 
 // The jobs from place lo to before hi, the sum over the block that touches lo, and the largest sum over a block.
-#[derive(Drop)]
+#[derive(Clone, Copy)]
 pub(crate) struct Window {
     pub lo: usize,
     pub hi: usize,

@@ -1,5 +1,5 @@
 -- Blocks as C sees them: what is refused, and the numbers of an answer that passes. Assumes nothing.
-use Prim.Native.Nat.{ℕ, zero, suc, ◌+◌, ◌-◌, ◌*◌, ◌≤◌}
+use Prim.Native.Nat.{ℕ, zero, suc, ◌+◌, ◌*◌, ◌≤◌}
 use mathlib.Core.Path.{◌≡◌, refl, sym, ap, ◌∙◌}
 use mathlib.Core.Option.{Option, none, some}
 use mathlib.Core.List.{List}
@@ -20,7 +20,7 @@ use Rattle.jobs.specs.Checks.{check_of}
 use Rattle.jobs.proofs.Sets.{length_jobs}
 use Rattle.jobs.proofs.Accepted.{accepted}
 use Rattle.jobs.proofs.Chains.{chains-within, chains_are}
-use Rattle.theory.specs.Delays.{Delay as Theory-as-Delay}
+use Rattle.theory.specs.Delays.{Delay as TheoryDelay}
 use Rattle.completion.specs.declared.answer.Bounds.{Bounds}
 use Rattle.completion.specs.declared.answer.Delay.{Delay}
 use Rattle.completion.specs.Delays.{no_delay, block_named, delay_named, delays_named}
@@ -33,16 +33,16 @@ use Rattle.cudlomer.specs.Sets.{blocks_by, blocks_code, blocks_into}
 use Rattle.cudlomer.proofs.Bounding.{refused_by, front_padded, check_is, found, bounds_few}
 
 -- ---- how many delays there are by an algorithm, and that each has a block for each chain
-tabulated_full : (i n : ℕ) (number : ℕ → ℕ) (delay : ℕ → Theory-as-Delay) → Full (tabulate i n (λ j. delay_named number (delay j)))
+tabulated_full : (i n : ℕ) (number : ℕ → ℕ) (delay : ℕ → TheoryDelay) → Full (tabulate i n (λ j. delay_named number (delay j)))
 unfolding tabulate delay_named
 tabulated_full i zero number delay = tt
 tabulated_full i (suc n) number delay = (length-tabulate 1 max_chains (λ c. block_named number ((delay i).block c)), tabulated_full (suc i) n number delay)
 
-named_full : (js : List Job) (delay : ℕ → Theory-as-Delay) → Full (delays_named js delay)
+named_full : (js : List Job) (delay : ℕ → TheoryDelay) → Full (delays_named js delay)
 unfolding delays_named
 named_full js delay = tabulated_full 0 (length js) _ delay
 
-length_named : (js : List Job) (delay : ℕ → Theory-as-Delay) → length (delays_named js delay) ≡ length js
+length_named : (js : List Job) (delay : ℕ → TheoryDelay) → length (delays_named js delay) ≡ length js
 unfolding delays_named
 length_named js delay = length-tabulate 0 (length js) _
 

@@ -1,5 +1,5 @@
 -- Answers as C sees them. Document 01, "Programs and the C side". Assumes nothing.
-use Rattle.laws.specs.Words.{ℕ, ◌+◌, ◌*◌, ℤ, pos, neg_ℤ}
+use Rattle.std.specs.Prelude.{ℕ, ◌+◌, ◌*◌, ℤ, pos, neg_ℤ}
 use Rattle.jobs.specs.{declared.refusal.Refusal.Refusal, declared.refusal.Check.Check, Refusals.number_of, Refusals.on_pass}
 use Rattle.analysis.specs.declared.answer.Verdict.{Verdict}
 use Rattle.machine.specs.declared.{step.Ticked.Ticked, trace.Traced.Traced}

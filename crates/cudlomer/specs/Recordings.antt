@@ -1,5 +1,6 @@
 -- What C gets of two recordings of the set in its memory: the answer, and what is left in memory. Document 02, R-5. Assumes nothing.
-use Rattle.laws.specs.Words.{ℕ, cond, List, [], ◌∷◌, length, ℤ, written}
+use Rattle.std.specs.Prelude.{ℕ, cond, List, [], ◌∷◌, length, ℤ}
+use Rattle.laws.specs.Words.{written}
 use Rattle.jobs.specs.{declared.job.Job.Job, Refusals.on_pass, Refusals.and_then}
 use Rattle.numbers.specs.Numbers.{room_check}
 use Rattle.recorders.specs.{declared.compare.Compared.Compared, Comparing.compared_of}

@@ -1,6 +1,7 @@
 -- What C gets of a set that stands in its memory as numbers: the answer of each function, and what it leaves in memory.
 -- Numbers in memory are a set or a state as crates/numbers/specs says. Assumes nothing.
-use Rattle.laws.specs.Words.{ℕ, List, ℤ, pos, length, take, written}
+use Rattle.std.specs.Prelude.{ℕ, List, ℤ, pos, length, take}
+use Rattle.laws.specs.Words.{written}
 use Rattle.jobs.specs.declared.{job.Job.Job, refusal.Check.Check}
 use Rattle.jobs.specs.{Refusals.on_pass, Refusals.and_then, Jobs.chains_of, Jobs.jobs_of, Checks.check_of}
 use Rattle.table.specs.Tables.{on_table}

@@ -1,5 +1,5 @@
 -- What C gets of a table's text beside the texts that are written. Document 01, "Programs and the C side". Assumes nothing.
-use Rattle.laws.specs.Words.{ℕ, List, ℤ, pos}
+use Rattle.std.specs.Prelude.{ℕ, List, ℤ, pos}
 use Rattle.table.specs.Tables.{on_table}
 use Rattle.theory.specs.{Table.table_of, Bounds.itr}
 use Rattle.analysis.specs.{declared.answer.Verdict.Verdict, Answers.verdict_by}

@@ -1,5 +1,5 @@
 // Answers as C sees them.
-ghost use Rattle.laws.specs.Words.{◌≡◌, ℕ, ◌≤◌};
+ghost use Rattle.std.specs.Prelude.{◌≡◌, ℕ, ◌≤◌};
 ghost use Rattle.jobs.specs.Limits.{max_jobs, max_chains};
 ghost use Rattle.machine.specs.Ticks.{last_time};
 ghost use Rattle.cudlomer.specs.Codes.{refusal_code, checked_code, written_code, verdict_code, ticked_code, traced_code};

@@ -1,5 +1,5 @@
 // The comparison of two recordings of the set in the caller's memory.
-ghost use Rattle.laws.specs.Words.{◌≡◌, cond};
+ghost use Rattle.std.specs.Prelude.{◌≡◌, cond};
 ghost use Rattle.cudlomer.specs.{Sets.jobs_here, Recordings.compared_numbers, Recordings.compare_code, Recordings.compare_into};
 
 use crate::codes::{checked_code, negated};

@@ -1,5 +1,5 @@
 // The functions that run a set in the caller's memory: one tick, the run, its steps, its trace and its waveform.
-ghost use Rattle.laws.specs.Words.{◌≡◌, length};
+ghost use Rattle.std.specs.Prelude.{◌≡◌, length};
 ghost use Rattle.jobs.specs.{declared.refusal.Refusal.Refusal, Refusals.on_pass, Jobs.jobs_of};
 ghost use Rattle.machine.specs.{Ticks.machine_check, Runs.run_of, Runs.trace_of, Runs.traced_in};
 ghost use Rattle.waveform.specs.Answers.{waveform_answer, waveform_left};

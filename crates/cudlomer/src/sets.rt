@@ -1,5 +1,5 @@
 // The functions on a set in the caller's memory: reading and writing, bounds, verdict and admission.
-ghost use Rattle.laws.specs.Words.{◌≡◌, ◌≤◌, length};
+ghost use Rattle.std.specs.Prelude.{◌≡◌, ◌≤◌, length};
 ghost use Rattle.jobs.specs.{Limits.max_jobs, Jobs.jobs_of};
 ghost use Rattle.analysis.specs.Answers.{verdict_of};
 ghost use Rattle.numbers.specs.Numbers.{held_set, put_check, put_from};

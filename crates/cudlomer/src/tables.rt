@@ -1,5 +1,5 @@
 // The functions on the text of a table.
-ghost use Rattle.laws.specs.Words.{◌≡◌};
+ghost use Rattle.std.specs.Prelude.{◌≡◌};
 ghost use Rattle.texts.specs.Answers.{answer_for, left_for};
 ghost use Rattle.report.specs.Texts.{bounds_text, trace_text};
 ghost use Rattle.cudlomer.specs.{Codes.written_code, Codes.verdict_code, Tables.verdict_of_table, Tables.rounds_of_table};

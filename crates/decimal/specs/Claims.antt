@@ -1,5 +1,5 @@
 -- What is proved of decimal digits, for numbers of any size; proofs/Claims.antt has the proof of all. Assumes nothing.
-use Rattle.laws.specs.Words.{ℕ, suc, ◌-◌, ◌^◌, ◌≤◌, ◌<◌, ◌≡◌, false, List, [], ◌++◌}
+use Rattle.std.specs.Prelude.{ℕ, suc, ◌-◌, ◌^◌, ◌≤◌, ◌<◌, ◌≡◌, false, List, [], ◌++◌}
 use Rattle.decimal.specs.declared.field.Field.{Field}
 use Rattle.decimal.specs.{Digits.digit_count, Digits.decimal, Digits.value_from, Fields.max_digits, Fields.digit_run, Fields.leading_zero, Fields.field_of}
 

@@ -1,5 +1,5 @@
 -- Decimal digits of numbers of any size, as ASCII codes; Claims.antt has what is proved of them. Assumes nothing.
-use Rattle.laws.specs.Words.{ℕ, zero, suc, ◌+◌, ◌-◌, ◌*◌, ◌/◌, ◌%◌, cond, List, [], ◌∷◌, ◌++◌, ltb, length, ℤ, pos, negsuc}
+use Rattle.std.specs.Prelude.{ℕ, zero, suc, ◌+◌, ◌-◌, ◌*◌, ◌/◌, ◌%◌, cond, List, [], ◌∷◌, ◌++◌, ltb, length, ℤ, pos, negsuc}
 
 -- The digits of n, for any f above n: those of n / 10, where n is not below ten, and the last, coded as 48 plus it; f only ends the recursion.
 unfoldable pub digits_up_to : ℕ → ℕ → List ℕ

@@ -1,5 +1,5 @@
 -- A field of a table: a decimal number at the start of a text. Document 01, "A job table". Assumes nothing.
-use Rattle.laws.specs.Words.{ℕ, Bool, cond, not, ◌&&◌, List, [], ◌∷◌, leb, ltb, eqb, length, get_or}
+use Rattle.std.specs.Prelude.{ℕ, Bool, cond, not, ◌&&◌, List, [], ◌∷◌, leb, ltb, eqb, length, get_or}
 use Rattle.decimal.specs.{Digits.value_from, declared.field.Field.Field}
 
 -- Whether a byte is the code of a digit, 48 for 0 to 57 for 9.

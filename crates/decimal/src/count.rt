@@ -1,5 +1,5 @@
 // How many digits a number has.
-ghost use Rattle.laws.specs.Words.{◌≡◌};
+ghost use Rattle.std.specs.Prelude.{◌≡◌};
 ghost use Rattle.decimal.specs.Digits.{digit_count};
 
 // How many digits value has, by the first power of ten that is above it.

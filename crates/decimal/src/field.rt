@@ -1,12 +1,12 @@
 // Reading a number from the rest of a text.
-ghost use Rattle.laws.specs.Words.{◌≡◌, cond, true, false, eqb};
+ghost use Rattle.std.specs.Prelude.{◌≡◌, cond, true, false, eqb};
 ghost use Rattle.decimal.specs.Fields.{is_digit, max_digits, field_of};
 
 // The most digits a field's number has.
 const MAX_DIGITS: usize = 10;
 
 // What stands at the start of a text.
-#[derive(Drop)]
+#[derive(Clone, Copy)]
 pub enum Field {
     // A number of 1 to 10 digits, with no leading zero except in 0 itself, and how many bytes it takes.
     Number { value: u64, length: usize },

@@ -1,5 +1,6 @@
 // Writing a number with its sign.
-ghost use Rattle.laws.specs.Words.{◌≡◌, length, pos, nat_abs, written, written_length};
+ghost use Rattle.std.specs.Prelude.{◌≡◌, length, pos, nat_abs};
+ghost use Rattle.laws.specs.Words.{written, written_length};
 ghost use Rattle.std.specs.Int.Signed.{lt_z};
 ghost use Rattle.decimal.specs.Digits.{signed};
 

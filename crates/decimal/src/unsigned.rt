@@ -1,5 +1,6 @@
 // Writing a number without a sign.
-ghost use Rattle.laws.specs.Words.{◌≡◌, ◌++◌, ◌≤◌, length, drop, written, written_length};
+ghost use Rattle.std.specs.Prelude.{◌≡◌, ◌++◌, ◌≤◌, length, drop};
+ghost use Rattle.laws.specs.Words.{written, written_length};
 ghost use Rattle.laws.proofs.Digits.{last_digits};
 ghost use Rattle.decimal.specs.Digits.{decimal};
 

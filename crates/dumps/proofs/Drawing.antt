@@ -25,7 +25,7 @@ use Rattle.machine.specs.Ticks.{last_time, machine_check}
 use Rattle.machine.specs.Runs.{row, rows, traced}
 use Rattle.machine.proofs.RunningTimes.{set_accepted}
 use Rattle.machine.proofs.SpanOrder.{Ordered, Within, spans_ordered, spans-within}
-use Rattle.machine.proofs.Tracing.{rows-length}
+use Rattle.machine.proofs.Tracing.{rows-length, rows_next}
 use Rattle.dumps.specs.Dumps.{runs_first, dump_of, waveform_of}
 use Rattle.dumps.proofs.Changes.{runs_later}
 use Rattle.dumps.proofs.Entries.{span_at, spans_of, first_place, Drawn}
@@ -44,9 +44,11 @@ module _ (js : List Job) (ok : Accepted js) where
       rw (chain, row_at ss s rest 1, row_at ss s rest 2, row_at ss s rest 3, place_found js ok s.at l)
 
   spans_back : (ss : List Span) (rest : List ℕ) → Within (length js) ss → spans_of js (rows js ss ++ rest) (length ss) ≡ ss
-  unfolding spans_of rows
+  unfolding spans_of
   spans_back [] rest w = refl
-  spans_back (s ∷ ss) rest w = rw (append_assoc (rows js ss) (row js s) rest, span_back ss s rest w.0, spans_back ss (row js s ++ rest) w.1)
+  spans_back (s ∷ ss) rest w =
+      let whole : rows js (s ∷ ss) ++ rest ≡ rows js ss ++ (row js s ++ rest) = rw rows_next (append_assoc (rows js ss) (row js s) rest) in
+      ap (λ (b : List ℕ). spans_of js b (length (s ∷ ss))) whole ∙ rw (span_back ss s rest w.0, spans_back ss (row js s ++ rest) w.1)
 
 -- ---- the job that runs first
 first_value : (m : ℕ) → m ≤ max_jobs → (ss : List Span) → Ordered ss → (u : ℕ) → u < m → runs_first ss u ≡ eqb (first_place ss) u

@@ -1,5 +1,6 @@
 -- What is proved of waveforms; proofs/Claims.antt has the proof of all. Assumes nothing.
-use Rattle.laws.specs.Words.{ℕ, ◌*◌, ◌≤◌, ◌<◌, ◌≡◌, some, List, length}
+use Rattle.std.specs.Prelude.{ℕ, ◌*◌, ◌≤◌, ◌<◌, ◌≡◌, List, length}
+use Rattle.laws.specs.Words.{some}
 use Rattle.jobs.specs.declared.{job.Job.Job, refusal.Check.Check}
 use Rattle.jobs.specs.{Limits.max_jobs, Jobs.job_at}
 use Rattle.theory.specs.{Table.table_of, Runs.names}

@@ -4,7 +4,8 @@
 --   change_lines   the later changes, each under its time
 --   dump_of        the dump of spans, the latest first
 --   waveform_of    the dump of a run
-use Rattle.laws.specs.Words.{ℕ, suc, Bool, true, false, cond, ◌&&◌, ◌||◌, List, [], ◌∷◌, ◌++◌, eqb, length, tabulate, ascii}
+use Rattle.std.specs.Prelude.{ℕ, suc, Bool, true, false, cond, ◌&&◌, ◌||◌, List, [], ◌∷◌, ◌++◌, eqb, length}
+use Rattle.laws.specs.Words.{tabulate, ascii}
 use Rattle.decimal.specs.Digits.{decimal}
 use Rattle.jobs.specs.{declared.job.Job.Job, Jobs.job_at, Jobs.most_times}
 use Rattle.machine.specs.{declared.trace.Span.Span, Runs.traced}

@@ -4,7 +4,8 @@
 --   wires_in    the wires that the definitions declare, and the lines after them
 --   seen_line   what one line more tells
 --   rows_in     the rows of a dump: chain, job, from and to of each span in which a wire is 1, in order of their ends
-use Rattle.laws.specs.Words.{ℕ, Bool, true, false, cond, not, ◌&&◌, ◌||◌, Option, none, some, List, [], ◌∷◌, ◌++◌, map, leb, ltb, eqb, length, get_or, drop, last_of, ascii}
+use Rattle.std.specs.Prelude.{ℕ, Bool, true, false, cond, not, ◌&&◌, ◌||◌, List, [], ◌∷◌, ◌++◌, map, leb, ltb, eqb, length, get_or, drop}
+use Rattle.laws.specs.Words.{Option, none, some, last_of, ascii}
 use Rattle.decimal.specs.{declared.field.Field.Field, Fields.field_of}
 
 -- What is made of an answer, where there is one.

@@ -1,5 +1,5 @@
 -- The jobs of an accepted set: in order, and within their limits. Document 01, "A job table". Assumes nothing.
-use Rattle.laws.specs.Words.{ℕ, suc, ◌+◌, ◌≤◌, ◌<◌, ◌≡◌, ◌⊎◌, List, length}
+use Rattle.std.specs.Prelude.{ℕ, suc, ◌+◌, ◌≤◌, ◌<◌, ◌≡◌, ◌⊎◌, List, length}
 use Rattle.jobs.specs.declared.job.Job.{Job}
 use Rattle.jobs.specs.{Limits.max_jobs, Limits.max_chains, Limits.max_release, Limits.max_priority, Limits.max_time, Limits.max_deadline, Jobs.job_at}
 

@@ -1,5 +1,6 @@
 -- The checks of a record, and of a set. Document 01, numbers 4 to 7 and what follows them; document 02, R-4. Assumes nothing.
-use Rattle.laws.specs.Words.{ℕ, ◌+◌, Bool, cond, ◌&&◌, List, [], ◌∷◌, ◌++◌, leb, ltb, eqb, length, last_of}
+use Rattle.std.specs.Prelude.{ℕ, ◌+◌, Bool, cond, ◌&&◌, List, [], ◌∷◌, ◌++◌, leb, ltb, eqb, length}
+use Rattle.laws.specs.Words.{last_of}
 use Rattle.jobs.specs.declared.{job.Job.Job, refusal.Check.Check, refusal.Refusal.Refusal}
 use Rattle.jobs.specs.{Limits.max_jobs, Limits.max_chains, Limits.max_release, Limits.max_priority, Limits.max_time, Limits.max_deadline, Refusals.unless, Refusals.and_then, Jobs.no_job}
 

@@ -1,5 +1,6 @@
 -- What is proved of the checks; proofs/Claims.antt has the proof of all. Document 02, R-4. Assumes nothing.
-use Rattle.laws.specs.Words.{ℕ, ◌≡◌, ◌↔◌, Bool, cond, ◌&&◌, List, [], ◌∷◌, ◌++◌, leb, ltb, length, last_of}
+use Rattle.std.specs.Prelude.{ℕ, ◌≡◌, ◌↔◌, Bool, cond, ◌&&◌, List, [], ◌∷◌, ◌++◌, leb, ltb, length}
+use Rattle.laws.specs.Words.{last_of}
 use Rattle.jobs.specs.declared.{job.Job.Job, refusal.Refusal.Refusal, refusal.Check.Check}
 use Rattle.jobs.specs.{Limits.max_jobs, Limits.max_chains, Limits.max_release, Limits.max_priority, Limits.max_time, Limits.max_deadline, Refusals.number_of, Refusals.unless, Refusals.on_pass, Refusals.and_then}
 use Rattle.jobs.specs.{Jobs.no_job, Checks.is_next, Checks.record_check, Checks.any_record, Checks.check_of, Accepted.Accepted}

@@ -1,5 +1,6 @@
 -- Jobs and the sets that hold them. Document 01, "A job table", and "A form for each place". Assumes nothing.
-use Rattle.laws.specs.Words.{ℕ, Bool, ◌&&◌, List, map, eqb, length, get_or, first_below, last_of, tabulate, padded}
+use Rattle.std.specs.Prelude.{ℕ, Bool, ◌&&◌, List, map, eqb, length, get_or}
+use Rattle.laws.specs.Words.{first_below, last_of, tabulate, padded}
 use Rattle.jobs.specs.{declared.job.Job.Job, declared.set.JobSet.JobSet, Limits.max_jobs}
 
 -- A job by its numbers and values, in the order of a table's columns.

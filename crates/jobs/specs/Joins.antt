@@ -1,5 +1,6 @@
 -- A further chain joins a set. Document 01, "Admission joins a chain as the highest-numbered one", and the end of the refusals. Assumes nothing.
-use Rattle.laws.specs.Words.{ℕ, ◌+◌, List, [], ◌∷◌, ◌++◌, last_of}
+use Rattle.std.specs.Prelude.{ℕ, ◌+◌, List, [], ◌∷◌, ◌++◌}
+use Rattle.laws.specs.Words.{last_of}
 use Rattle.jobs.specs.declared.{job.Job.Job, set.JobSet.JobSet, refusal.Check.Check, join.Joined.Joined}
 use Rattle.jobs.specs.{Refusals.on_pass, Refusals.and_then, Jobs.job, Jobs.no_job, Jobs.jobs_of, Jobs.set_of, Checks.records_check, Checks.any_record}
 

@@ -1,5 +1,5 @@
 -- The greatest values of a job table, each named by what it limits. Document 01, "A job table". Assumes nothing.
-use Rattle.laws.specs.Words.{ℕ}
+use Rattle.std.specs.Prelude.{ℕ}
 
 abbrev pub max_jobs : ℕ
 max_jobs = 64

@@ -1,5 +1,5 @@
 -- The refusals and their numbers, and checks in sequence. Document 01, "Numbers of refusal, in checking order"; document 02, R-4 and R-5. Assumes nothing.
-use Rattle.laws.specs.Words.{ℕ, Bool, true, false}
+use Rattle.std.specs.Prelude.{ℕ, Bool, true, false}
 use Rattle.jobs.specs.declared.{refusal.Refusal.Refusal, refusal.Check.Check}
 
 -- The number of a refusal.

@@ -1,5 +1,5 @@
 // The check of a set handed by value, whatever it holds.
-ghost use Rattle.laws.specs.Words.{◌≡◌, []};
+ghost use Rattle.std.specs.Prelude.{◌≡◌, []};
 ghost use Rattle.jobs.specs.{Jobs.jobs_of, Checks.records_check, Checks.check_of};
 
 use crate::job::Job;

@@ -1,8 +1,8 @@
 // A job: a record of the table.
-ghost use Rattle.laws.specs.Words.{◌≡◌};
+ghost use Rattle.std.specs.Prelude.{◌≡◌};
 ghost use Rattle.jobs.specs.Jobs.{no_job, urgency_of};
 
-#[derive(Drop)]
+#[derive(Clone, Copy)]
 pub struct Job {
     pub chain: u64,
     pub job: u64,

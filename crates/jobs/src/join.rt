@@ -1,5 +1,5 @@
 // A further chain joins a set as its highest-numbered one.
-ghost use Rattle.laws.specs.Words.{◌≡◌, [], ◌+◌, ◌≤◌};
+ghost use Rattle.std.specs.Prelude.{◌≡◌, [], ◌+◌, ◌≤◌};
 ghost use Rattle.jobs.specs.{Limits.max_jobs, Jobs.jobs_of, Jobs.set_of, Checks.records_check, Joins.renumbered, Joins.join_of};
 
 use crate::check::check_records;
@@ -10,7 +10,7 @@ use crate::refusal::{Check, Refusal};
 use crate::set::JobSet;
 
 // The joined set, or the refusal with the old set.
-#[derive(Drop)]
+#[derive(Clone, Copy)]
 pub struct Joined {
     pub check: Check,
     pub set: JobSet,

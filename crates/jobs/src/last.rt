@@ -1,5 +1,6 @@
 // The last job of a set.
-ghost use Rattle.laws.specs.Words.{◌≡◌, take, last_of};
+ghost use Rattle.std.specs.Prelude.{◌≡◌, take};
+ghost use Rattle.laws.specs.Words.{last_of};
 ghost use Rattle.jobs.specs.{Limits.max_jobs, Jobs.no_job, Jobs.jobs_of};
 
 use crate::job::Job;

@@ -1,4 +1,6 @@
 // Jobs, sets of jobs, and the checks that decide whether a set is accepted.
+#![tactic(auto)]
+
 pub mod check;
 pub mod job;
 pub mod join;

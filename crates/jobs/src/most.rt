@@ -1,5 +1,6 @@
 // The most times of a set.
-ghost use Rattle.laws.specs.Words.{◌≡◌, take, padded};
+ghost use Rattle.std.specs.Prelude.{◌≡◌, take};
+ghost use Rattle.laws.specs.Words.{padded};
 ghost use Rattle.jobs.specs.{Limits.max_jobs, Jobs.jobs_of, Jobs.most_times};
 
 use crate::set::{JobSet, held};

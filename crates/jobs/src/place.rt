@@ -1,5 +1,5 @@
 // The place of a job in a set, by its numbers.
-ghost use Rattle.laws.specs.Words.{◌≡◌, take};
+ghost use Rattle.std.specs.Prelude.{◌≡◌, take};
 ghost use Rattle.jobs.specs.{Limits.max_jobs, Jobs.jobs_of, Jobs.is_job, Jobs.place_in};
 
 use crate::job::Job;

@@ -1,5 +1,5 @@
 // The check of one record, refusals 4 to 6 and 12 to 14: how many there are, its place in the order, and its values.
-ghost use Rattle.laws.specs.Words.{◌≡◌, ◌+◌, eqb};
+ghost use Rattle.std.specs.Prelude.{◌≡◌, ◌+◌, eqb};
 ghost use Rattle.jobs.specs.Checks.{is_next, record_check};
 
 use crate::job::Job;

@@ -1,8 +1,8 @@
 // The reasons for which an operation is refused, and the number of each.
-ghost use Rattle.laws.specs.Words.{◌≡◌};
+ghost use Rattle.std.specs.Prelude.{◌≡◌};
 ghost use Rattle.jobs.specs.Refusals.{number_of};
 
-#[derive(Drop)]
+#[derive(Clone, Copy)]
 pub enum Refusal {
     TextTooLong,
     NotHeader,
@@ -48,7 +48,7 @@ impl Refusal {
 }
 
 // What a check comes to.
-#[derive(Drop)]
+#[derive(Clone, Copy)]
 pub enum Check {
     Passed,
     Refused(Refusal),

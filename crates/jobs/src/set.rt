@@ -1,10 +1,10 @@
 // A set of jobs, by value. Places from count on hold no job.
-ghost use Rattle.laws.specs.Words.{◌≡◌, min, []};
+ghost use Rattle.std.specs.Prelude.{◌≡◌, min, []};
 ghost use Rattle.jobs.specs.{Limits.max_jobs, Jobs.set_of};
 
 use crate::job::Job;
 
-#[derive(Drop)]
+#[derive(Clone, Copy)]
 pub struct JobSet {
     pub jobs: [Job; JobSet::MAX_JOBS],
     pub count: usize,

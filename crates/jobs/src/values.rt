@@ -1,5 +1,5 @@
 // The check of one record's values, refusals 6 and 12 to 14.
-ghost use Rattle.laws.specs.Words.{◌≡◌};
+ghost use Rattle.std.specs.Prelude.{◌≡◌};
 ghost use Rattle.jobs.specs.Checks.{in_limits, times_in_limits, values_check};
 
 use crate::job::Job;

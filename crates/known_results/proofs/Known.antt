@@ -38,7 +38,7 @@ unfolding run_with
 settled_run js r passed early done known =
     rw (run-carried js r.0 passed r.1.1 early done, trace_carried js r.0 passed r.1.1 early done) known
 
--- all that `settled-run` asks, of each run
+-- all that `settled_run` asks, of each run
 EachSettled : List Job → List KnownRun → Type 0
 EachSettled js [] = Unit {0}
 EachSettled js (r ∷ rs) =

@@ -1,6 +1,7 @@
 -- Blocks that are known whole: those that delay the jobs of P1, by each algorithm. Document 02, R-3, has that of job 2 of chain 2 by ITR, and the rest
 -- is worked out by hand. Assumes nothing.
-use Rattle.laws.specs.Words.{ℕ, List, [], ◌∷◌, padded}
+use Rattle.std.specs.Prelude.{ℕ, List, [], ◌∷◌}
+use Rattle.laws.specs.Words.{padded}
 use Rattle.jobs.specs.{declared.job.Job.Job, Limits.max_chains}
 use Rattle.theory.specs.{Table.table_of, Delays.ert_delay, Delays.cja_delay, Delays.itr_delay}
 use Rattle.completion.specs.{declared.answer.Block.Block, declared.answer.Delay.Delay, Delays.no_block, Delays.delays_named}

@@ -1,7 +1,8 @@
 -- Tables with known results: document 01, P1 to P8, Tables 1 to 3 of source document 004 for P1, and the example of document 02, R-2. A deadline,
 -- priority or least time that they do not give is chosen here; of runs they give the rows of P2 and of R-2's example, a completion of P3 and the end
 -- of P4, and the rest is worked out by hand. Assumes nothing.
-use Rattle.laws.specs.Words.{ℕ, Bool, true, false, List, [], ◌∷◌, ◌++◌, map, length, get_or, ℤ, pos, neg_ℤ, number_at, tabulate}
+use Rattle.std.specs.Prelude.{ℕ, Bool, true, false, List, [], ◌∷◌, ◌++◌, map, length, get_or, ℤ, pos, neg_ℤ}
+use Rattle.laws.specs.Words.{number_at, tabulate}
 use Rattle.jobs.specs.{declared.job.Job.Job, declared.refusal.Check.Check, Jobs.job, Jobs.job_at, Checks.check_of}
 use Rattle.theory.specs.{Table.table_of, Bounds.interference_at, Bounds.ert, Bounds.cja, Bounds.itr, Bounds.slacks, Bounds.meets}
 use Rattle.machine.specs.{Runs.run_of, Runs.rows, Runs.traced}

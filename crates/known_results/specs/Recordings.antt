@@ -1,6 +1,7 @@
 -- Recordings whose legality is known, worked out by hand from document 02, R-5: the runs of P2 and P3, equals by turns, and faulty ones.
 -- Assumes nothing.
-use Rattle.laws.specs.Words.{ℕ, Bool, true, false, Option, none, some, List, [], ◌∷◌}
+use Rattle.std.specs.Prelude.{ℕ, Bool, true, false, List, [], ◌∷◌}
+use Rattle.laws.specs.Words.{Option, none, some}
 use Rattle.jobs.specs.declared.job.Job.{Job}
 use Rattle.theory.specs.Table.{table_of}
 use Rattle.recording.specs.{declared.row.Row.Row, Rows.row}

@@ -1,5 +1,6 @@
 -- Waveforms that are known whole: P4 with 3, as document 02 has it in R-1, and P2 and P3, worked out by hand from their rows. Assumes nothing.
-use Rattle.laws.specs.Words.{ℕ, true, List, [], ◌∷◌, ◌++◌, pos, ascii}
+use Rattle.std.specs.Prelude.{ℕ, true, List, [], ◌∷◌, ◌++◌, pos}
+use Rattle.laws.specs.Words.{ascii}
 use Rattle.jobs.specs.declared.job.Job.{Job}
 use Rattle.dumps.specs.Dumps.{waveform_of}
 use Rattle.known_results.specs.Cases.{jobs_in, p1, p2, p3, p4}

@@ -1,5 +1,5 @@
 -- The first line of a text. Assumes nothing.
-use Rattle.laws.specs.Words.{ℕ, ◌-◌, Bool, cond, ◌&&◌, List, [], ◌∷◌, eqb, length}
+use Rattle.std.specs.Prelude.{ℕ, ◌-◌, Bool, cond, ◌&&◌, List, [], ◌∷◌, eqb, length}
 
 -- Whether two bytes are CR LF.
 abbrev pub is_break : ℕ → ℕ → Bool

@@ -9,7 +9,8 @@
 --   waiting_in    columns of the time from which each job is ready, its urgency and its end
 --   held_up       a job waits in the gap before a row, or while the row of a less urgent job lasts
 --   rows_fit_in    what is asked of the rows
-use Rattle.laws.specs.Words.{ℕ, length, ◌≤◌, ◌<◌, max, min, ◌≡◌, Bool, true, not, ◌&&◌, ◌||◌, List, [], ◌∷◌, leb, ltb, tabulate, every_below}
+use Rattle.std.specs.Prelude.{ℕ, length, ◌≤◌, ◌<◌, max, min, ◌≡◌, Bool, true, not, ◌&&◌, ◌||◌, List, [], ◌∷◌, leb, ltb}
+use Rattle.laws.specs.Words.{tabulate, every_below}
 use Rattle.jobs.specs.{declared.job.Job.Job, declared.refusal.Check.Check, Limits.max_jobs, Jobs.job_at, Jobs.urgency_of, Checks.check_of}
 use Rattle.theory.proofs.{Columns.figure, Columns.column, Prior.prior, Predecessors.not_before}
 use Rattle.recording.specs.{declared.row.Row.Row, declared.reading.Recording.Recording}

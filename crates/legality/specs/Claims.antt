@@ -1,5 +1,6 @@
 -- What is proved of recordings; proofs/Claims.antt has the proof of all. Document 02, R-5. Assumes nothing.
-use Rattle.laws.specs.Words.{ℕ, ◌≤◌, ◌<◌, ◌≡◌, ◌↔◌, true, none, List, number_at}
+use Rattle.std.specs.Prelude.{ℕ, ◌≤◌, ◌<◌, ◌≡◌, ◌↔◌, true, List}
+use Rattle.laws.specs.Words.{none, number_at}
 use Rattle.jobs.specs.{declared.job.Job.Job, declared.refusal.Check.Check, Checks.check_of}
 use Rattle.theory.specs.{Table.Table, Table.table_of, Bounds.ert, Bounds.cja, Bounds.itr}
 use Rattle.recording.specs.{declared.row.Row.Row, Rows.in_order}

@@ -2,7 +2,8 @@
 --   first_difference   the first tick at which they show different work
 --   FirstAt           what it is to be that tick, or none
 -- Assumes nothing.
-use Rattle.laws.specs.Words.{ℕ, ◌<◌, min, ◌≡◌, ◌≢◌, cond, ◌&&◌, Option, none, some, List, [], ◌∷◌, eqb}
+use Rattle.std.specs.Prelude.{ℕ, ◌<◌, min, ◌≡◌, ◌≢◌, cond, ◌&&◌, List, [], ◌∷◌, eqb}
+use Rattle.laws.specs.Words.{Option, none, some}
 use Rattle.recording.specs.declared.row.Row.{Row}
 use Rattle.legality.specs.Recorded.{row_entry}
 

@@ -1,5 +1,6 @@
 -- Which recordings are legal, by the runs of demand 3 alone. Document 02, R-5. Assumes nothing.
-use Rattle.laws.specs.Words.{ℕ, zero, suc, ◌≡◌, Bool, true, false, ◌&&◌, ◌||◌, List, [], ◌∷◌, ◌++◌, leb, number_at, every_below}
+use Rattle.std.specs.Prelude.{ℕ, zero, suc, ◌≡◌, Bool, true, false, ◌&&◌, ◌||◌, List, [], ◌∷◌, ◌++◌, leb}
+use Rattle.laws.specs.Words.{number_at, every_below}
 use Rattle.theory.specs.{Table.Table, Runs.work, Runs.complete, Runs.is_run}
 use Rattle.recording.specs.declared.row.Row.{Row}
 use Rattle.legality.specs.Recorded.{end_of, recorded}

@@ -5,7 +5,8 @@
 --   job_fits               what is asked of a job
 --   row_fits               what is asked of a row and of the gap before it
 --   recording_fits         all of it
-use Rattle.laws.specs.Words.{ℕ, zero, suc, ◌+◌, ◌-◌, max, min, Bool, true, cond, not, ◌&&◌, ◌||◌, List, [], ◌∷◌, leb, ltb, eqb, every_below}
+use Rattle.std.specs.Prelude.{ℕ, zero, suc, ◌+◌, ◌-◌, max, min, Bool, true, cond, not, ◌&&◌, ◌||◌, List, [], ◌∷◌, leb, ltb, eqb}
+use Rattle.laws.specs.Words.{every_below}
 use Rattle.theory.specs.{Table.Table, Table.joined}
 use Rattle.recording.specs.declared.row.Row.{Row}
 

@@ -1,5 +1,6 @@
 -- The run that the rows of a recording show. Document 02, R-5. Assumes nothing.
-use Rattle.laws.specs.Words.{ℕ, cond, ◌&&◌, List, [], ◌∷◌, leb, ltb, tabulate}
+use Rattle.std.specs.Prelude.{ℕ, cond, ◌&&◌, List, [], ◌∷◌, leb, ltb}
+use Rattle.laws.specs.Words.{tabulate}
 use Rattle.theory.specs.Runs.{Entry, idle, runs}
 use Rattle.recording.specs.declared.row.Row.{Row}
 

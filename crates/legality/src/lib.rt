@@ -1,1 +1,2 @@
 // Which recordings are legal, and where two differ: specs/ and proofs/ alone.
+#![tactic(auto)]

@@ -1,3 +1,1 @@
-pub mod Locals
 pub mod Scanning
-pub mod Values

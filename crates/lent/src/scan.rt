@@ -1,5 +1,6 @@
 // The scan over lent job records, which changes none.
-ghost use Rattle.laws.specs.Words.{◌≡◌, suc, true, ◌-◌, ◌<◌, ◌≤◌, min, max, cond, not, ◌&&◌, ◌||◌, List, length, number_at, leb, ltb, eqb};
+ghost use Rattle.std.specs.Prelude.{◌≡◌, suc, true, ◌-◌, ◌<◌, ◌≤◌, min, max, cond, not, ◌&&◌, ◌||◌, List, length, leb, ltb, eqb};
+ghost use Rattle.laws.specs.Words.{number_at};
 ghost use Rattle.jobs.specs.{Limits.max_jobs, Jobs.job_at, Jobs.jobs_of, Jobs.urgency_of};
 ghost use Rattle.theory.specs.Table.{table_of};
 ghost use Rattle.machine.specs.Ticks.{better, best_up_to};
@@ -13,7 +14,7 @@ use machine::state::State;
 use numbers::number::number_at;
 
 // What a scan knows: the best ready job so far and, of the last record, its chain, its least time, whether it is complete, and whether and how long it is released.
-#[derive(Drop)]
+#[derive(Clone, Copy)]
 struct Scan {
     best: Best,
     last: u64,

@@ -1,5 +1,5 @@
 // One tick in the caller's memory.
-ghost use Rattle.laws.specs.Words.{◌≡◌};
+ghost use Rattle.std.specs.Prelude.{◌≡◌};
 ghost use Rattle.jobs.specs.Jobs.{jobs_of};
 ghost use Rattle.machine.specs.Ticks.{step_of};
 

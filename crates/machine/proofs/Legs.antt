@@ -73,20 +73,6 @@ leg_of times s best release =
       ticks = cond best.found (min wait (get_or times best.at 0 - get_or s.work best.at 0)) wait;
     }
 
-module _ (times : List ℕ) (s : State) (best : Best) (release : ℕ) where
-  abbrev rest : ℕ
-  rest = get_or times best.at 0 - get_or s.work best.at 0
-
-  pub leg_complete : best.found ≡ true → rest < release - s.time → ◌≡◌ {A = Leg} (record { found = true; at = best.at; ticks = rest }) (leg_of times s best release)
-  leg_complete f l = let first : min (release - s.time) rest ≡ rest = omega arith in rw (f, first)
-
-  pub leg_released : best.found ≡ true → release - s.time ≤ rest
-      → ◌≡◌ {A = Leg} (record { found = best.found; at = best.at; ticks = release - s.time }) (leg_of times s best release)
-  leg_released f l = let first : min (release - s.time) rest ≡ release - s.time = omega arith in rw (f, first)
-
-  pub leg_idle : best.found ≡ false → ◌≡◌ {A = Leg} (record { found = best.found; at = best.at; ticks = release - s.time }) (leg_of times s best release)
-  leg_idle f = rw f
-
 -- ---- so many ticks with one entry
 -- the state after them, where its job is complete after none of them but the last
 abbrev pub moved_by : List ℕ → ℕ → Entry → State → State

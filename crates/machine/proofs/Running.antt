@@ -156,6 +156,19 @@ pub record Turn (t : Table) (times work completed : List ℕ) (left time release
   pub more : 0 < left
   pub worked_out : leg ≡ leg_of times (state_of time work completed) (best_up_to t times (state_of time work completed) t.count) release
 
+-- the turn at whose head the run is reached, and whose leg is worked out by the columns
+pub turn_shown : (count : ℕ) (columns : List (List ℕ)) {times work completed : List ℕ} {left time release : ℕ} {leg : Leg} → Runnable (shown count columns) times
+    → Reached (shown count columns) times work completed left time release → 0 < left
+    → leg ≡ leg_of times (state_of time work completed) (best_up_to (seen columns) times (state_of time work completed) count) release
+    → Turn (shown count columns) times work completed left time release leg
+turn_shown count columns {times} {work} {completed} {left} {time} {release} {leg} r h more e =
+    record {
+      runnable = r;
+      reached = h;
+      more = more;
+      worked_out = e ∙ ap (λ (best : Best). leg_of times (state_of time work completed) best release) (best-shown count columns times (state_of time work completed));
+    }
+
 module _ {t : Table} {times work completed : List ℕ} {left time release : ℕ} {leg : Leg} (turn : Turn t times work completed left time release leg) where
   abbrev state : State
   state = state_of time work completed

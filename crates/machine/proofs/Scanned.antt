@@ -1,5 +1,6 @@
 -- What a scan over job records carries from one to the next. Assumes nothing.
-use Rattle.laws.specs.Words.{ℕ, zero, suc, ◌-◌, Bool, false, List, leb, number_at}
+use Rattle.std.specs.Prelude.{ℕ, zero, suc, ◌-◌, Bool, false, List, leb}
+use Rattle.laws.specs.Words.{number_at}
 use Rattle.jobs.specs.declared.job.Job.{Job}
 use Rattle.theory.specs.{Table.table_of, Runs.complete}
 use Rattle.machine.specs.{declared.state.State.State, declared.pick.Best.Best, Ticks.best_up_to}

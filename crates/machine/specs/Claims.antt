@@ -1,5 +1,6 @@
 -- What is proved of the machine for accepted sets and running times in range; proofs/Claims has the proof of all. Assumes nothing.
-use Rattle.laws.specs.Words.{ℕ, suc, ◌+◌, ◌*◌, ◌≤◌, ◌<◌, ◌≡◌, ◌↔◌, ◌⊎◌, true, false, cond, ◌&&◌, List, [], ◌∷◌, leb, ltb, length, number_at, tabulate}
+use Rattle.std.specs.Prelude.{ℕ, suc, ◌+◌, ◌*◌, ◌≤◌, ◌<◌, ◌≡◌, ◌↔◌, ◌⊎◌, true, false, cond, ◌&&◌, List, [], ◌∷◌, leb, ltb, length}
+use Rattle.laws.specs.Words.{number_at, tabulate}
 use Rattle.jobs.specs.declared.{job.Job.Job, refusal.Check.Check}
 use Rattle.jobs.specs.Limits.{max_jobs}
 use Rattle.theory.specs.{Table.table_of, Bounds.itr, Runs.Entry, Runs.idle, Runs.runs, Runs.complete, Runs.is_run}

@@ -1,7 +1,8 @@
 -- Events: the times at which a job is released or completes. Document 02, R-7. Assumes nothing.
 --   is_event   whether a time is one
 --   events    how many there are after 0 and up to a time, each time counted once
-use Rattle.laws.specs.Words.{ℕ, suc, Bool, cond, not, ◌||◌, eqb, sum_below, every_below}
+use Rattle.std.specs.Prelude.{ℕ, suc, Bool, cond, not, ◌||◌, eqb}
+use Rattle.laws.specs.Words.{sum_below, every_below}
 use Rattle.theory.specs.Table.{Table}
 
 -- Whether some job has its effective release or its completion at time n.

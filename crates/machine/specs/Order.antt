@@ -1,6 +1,6 @@
 -- Which of two ready jobs goes first: the more urgent, among equals the one ready since the earlier time, then that of the lower chain number.
 -- Document 01, "The machine", as document 02, R-2, has it. Assumes nothing.
-use Rattle.laws.specs.Words.{ℕ, zero, suc, max, Bool, cond, ◌&&◌, ◌||◌, ltb, eqb}
+use Rattle.std.specs.Prelude.{ℕ, zero, suc, max, Bool, cond, ◌&&◌, ◌||◌, ltb, eqb}
 use Rattle.theory.specs.Table.{Table, joined}
 use Rattle.machine.specs.declared.rank.Rank.{Rank}
 

@@ -1,5 +1,6 @@
 -- The run from time 0, its steps from event to event, and its trace. Document 01, "The machine", and number 9; document 02, R-7. Assumes nothing.
-use Rattle.laws.specs.Words.{ℕ, zero, suc, ◌*◌, cond, ◌&&◌, List, [], ◌∷◌, ◌++◌, leb, eqb, length, replicate, tabulate, patched}
+use Rattle.std.specs.Prelude.{ℕ, zero, suc, ◌*◌, cond, ◌&&◌, List, [], ◌∷◌, ◌++◌, leb, eqb, length, replicate}
+use Rattle.laws.specs.Words.{tabulate, patched}
 use Rattle.jobs.specs.declared.{job.Job.Job, refusal.Refusal.Refusal, refusal.Check.Check}
 use Rattle.jobs.specs.{Limits.max_jobs, Refusals.on_pass, Refusals.unless, Refusals.and_then, Jobs.job_at}
 use Rattle.theory.specs.{Table.Table, Table.table_of, Runs.Entry, Runs.names, Runs.idle, Runs.runs}

@@ -1,5 +1,6 @@
 -- The machine's state, the job that it picks, and one tick. Document 01, "The machine" and numbers 4 to 8 and 11. Assumes nothing.
-use Rattle.laws.specs.Words.{ℕ, zero, suc, ◌+◌, Bool, true, false, cond, not, ◌&&◌, ◌||◌, List, leb, ltb, eqb, set, replicate, number_at, every_below}
+use Rattle.std.specs.Prelude.{ℕ, zero, suc, ◌+◌, Bool, true, false, cond, not, ◌&&◌, ◌||◌, List, leb, ltb, eqb, set, replicate}
+use Rattle.laws.specs.Words.{number_at, every_below}
 use Rattle.jobs.specs.declared.{job.Job.Job, refusal.Refusal.Refusal, refusal.Check.Check}
 use Rattle.jobs.specs.{Limits.max_jobs, Refusals.unless, Refusals.and_then, Checks.check_of, Jobs.job_at, Refusals.on_pass}
 use Rattle.theory.specs.{Table.Table, Table.table_of, Runs.complete, Runs.ready, Runs.times_fit, Runs.Entry, Runs.idle, Runs.runs, Runs.predecessor_complete}

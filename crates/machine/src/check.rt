@@ -1,5 +1,6 @@
 // The check of a state, refusal 11, after those of the set and its running times.
-ghost use Rattle.laws.specs.Words.{◌≡◌, ◌<◌, ◌≤◌, length, number_at, every_below};
+ghost use Rattle.std.specs.Prelude.{◌≡◌, ◌<◌, ◌≤◌, length};
+ghost use Rattle.laws.specs.Words.{number_at, every_below};
 ghost use Rattle.jobs.specs.{Limits.max_jobs, Jobs.jobs_of};
 ghost use Rattle.theory.specs.Table.{table_of};
 ghost use Rattle.theory.proofs.Columns.{seen, Alike};

@@ -1,5 +1,5 @@
 // The figures of a set that the scan reads at every tick, as columns; effective releases are worked out once.
-ghost use Rattle.laws.specs.Words.{◌≡◌, ◌+◌, ◌<◌, ◌^◌};
+ghost use Rattle.std.specs.Prelude.{◌≡◌, ◌+◌, ◌<◌, ◌^◌};
 ghost use Rattle.jobs.specs.{Limits.max_jobs, Jobs.jobs_of};
 ghost use Rattle.jobs.proofs.Accepted.{Accepted};
 ghost use Rattle.theory.specs.Table.{table_of};

@@ -1,5 +1,6 @@
 // Legs: from one release or completion to the next, every tick of a run does the same.
-ghost use Rattle.laws.specs.Words.{ℕ, ◌≡◌, ◌-◌, ◌<◌, ◌≤◌, min, cond, ltb, length, number_at};
+ghost use Rattle.std.specs.Prelude.{ℕ, ◌≡◌, ◌-◌, ◌<◌, ◌≤◌, min, cond, ltb, length};
+ghost use Rattle.laws.specs.Words.{number_at};
 ghost use Rattle.jobs.specs.Limits.{max_jobs};
 ghost use Rattle.theory.proofs.{Columns.seen, NextRelease.next_release};
 ghost use Rattle.machine.specs.{declared.state.State.State, Ticks.last_time, Ticks.best_up_to};
@@ -10,7 +11,7 @@ use crate::state::State;
 use jobs::set::JobSet;
 
 // Whether a job runs, which one, and for how many ticks.
-#[derive(Drop)]
+#[derive(Clone, Copy)]
 pub(crate) struct Leg {
     pub found: bool,
     pub at: usize,

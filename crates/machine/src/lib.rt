@@ -1,4 +1,6 @@
 // The machine that runs the jobs of a set tick by tick, by the priority rule.
+#![tactic(auto)]
+
 mod check;
 mod columns;
 mod leg;

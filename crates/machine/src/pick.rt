@@ -1,5 +1,6 @@
 // The pick: of the ready jobs, the one that goes before every other.
-ghost use Rattle.laws.specs.Words.{◌≡◌, ◌<◌, ◌≤◌, cond, length, number_at};
+ghost use Rattle.std.specs.Prelude.{◌≡◌, ◌<◌, ◌≤◌, cond, length};
+ghost use Rattle.laws.specs.Words.{number_at};
 ghost use Rattle.jobs.specs.Limits.{max_jobs};
 ghost use Rattle.theory.specs.Runs.{ready};
 ghost use Rattle.theory.proofs.Columns.{seen};
@@ -11,7 +12,7 @@ use crate::ready::is_ready;
 use jobs::set::JobSet;
 
 // The best ready job so far.
-#[derive(Drop)]
+#[derive(Clone, Copy)]
 pub struct Best {
     pub found: bool,
     pub at: usize,
@@ -46,8 +47,8 @@ fn consider<'a, 'b>(
 ) -> Best
     requires { (at < max_jobs) × (at < length times.now) }
     ensures { let t = seen columns.now in
-        let is_ready_lem = ready t t.earliest times.now (number_at work.now) time at in
-        result ≡ cond is_ready_lem (better best at (rank_of t (number_at completions.now) at)) best }
+        let ready_here = ready t t.earliest times.now (number_at work.now) time at in
+        result ≡ cond ready_here (better best at (rank_of t (number_at completions.now) at)) best }
 {
     if !is_ready(at, columns, times, work, time) {
         return best;

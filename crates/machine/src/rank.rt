@@ -1,5 +1,6 @@
 // Which of two ready jobs goes first: the more urgent, among equals the one that became ready earlier, then that of the lower chain number.
-ghost use Rattle.laws.specs.Words.{◌≡◌, ◌<◌, max, number_at};
+ghost use Rattle.std.specs.Prelude.{◌≡◌, ◌<◌, max};
+ghost use Rattle.laws.specs.Words.{number_at};
 ghost use Rattle.jobs.specs.Limits.{max_jobs};
 ghost use Rattle.theory.proofs.Columns.{seen};
 ghost use Rattle.machine.specs.Order.{ready_since, rank_of, outranks};
@@ -8,7 +9,7 @@ use crate::columns::{CHAIN, Columns, RELEASE, URGENCY, figure};
 use jobs::set::JobSet;
 
 // What ranks a ready job: its urgency, the time since when it is ready, and its chain.
-#[derive(Drop)]
+#[derive(Clone, Copy)]
 pub struct Rank {
     pub urgency: u64,
     pub since: u64,

@@ -1,5 +1,6 @@
 // Which jobs are ready, from columns of their figures.
-ghost use Rattle.laws.specs.Words.{◌≡◌, ◌<◌, ◌≤◌, length, number_at};
+ghost use Rattle.std.specs.Prelude.{◌≡◌, ◌<◌, ◌≤◌, length};
+ghost use Rattle.laws.specs.Words.{number_at};
 ghost use Rattle.jobs.specs.Limits.{max_jobs};
 ghost use Rattle.theory.specs.Runs.{complete, predecessor_complete, ready};
 ghost use Rattle.theory.proofs.Columns.{seen};

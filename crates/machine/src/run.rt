@@ -1,5 +1,5 @@
 // The run from time 0, from one release or completion to the next.
-ghost use Rattle.laws.specs.Words.{◌≡◌};
+ghost use Rattle.std.specs.Prelude.{◌≡◌};
 ghost use Rattle.jobs.specs.Jobs.{jobs_of};
 ghost use Rattle.theory.proofs.{Columns.shown, Runnable.Runnable};
 ghost use Rattle.machine.specs.Runs.{finish, completions, steps_of, run_of};
@@ -12,7 +12,7 @@ use jobs::refusal::Check;
 use jobs::set::JobSet;
 
 // Each job's completion time, 0 in the other places, the end of the run, and its steps from event to event; all 0 on a refusal.
-#[derive(Drop)]
+#[derive(Clone, Copy)]
 pub struct Completed {
     pub check: Check,
     pub completions: [u64; JobSet::MAX_JOBS],

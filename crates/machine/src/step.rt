@@ -1,5 +1,5 @@
 // One tick on a state, by value, with its checks.
-ghost use Rattle.laws.specs.Words.{◌≡◌};
+ghost use Rattle.std.specs.Prelude.{◌≡◌};
 ghost use Rattle.jobs.specs.Jobs.{jobs_of};
 ghost use Rattle.theory.specs.Table.{table_of};
 ghost use Rattle.theory.proofs.Columns.{seen, Alike};
@@ -16,7 +16,7 @@ use jobs::refusal::{Check, Refusal};
 use jobs::set::JobSet;
 
 // What a tick answers: the chain and job that ran, idle, finished before it, or refused.
-#[derive(Drop)]
+#[derive(Clone, Copy)]
 pub enum Ticked {
     Ran { chain: u64, job: u64 },
     Idle,
@@ -25,7 +25,7 @@ pub enum Ticked {
 }
 
 // The answer, and the state after the tick.
-#[derive(Drop)]
+#[derive(Clone, Copy)]
 pub struct Stepped {
     pub ticked: Ticked,
     pub state: State,

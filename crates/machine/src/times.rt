@@ -1,5 +1,6 @@
 // The check of running times, refusal 8, after those of the set.
-ghost use Rattle.laws.specs.Words.{ℕ, ◌≡◌, ◌<◌, ◌≤◌, length, get_or, sum_below};
+ghost use Rattle.std.specs.Prelude.{ℕ, ◌≡◌, ◌<◌, ◌≤◌, length, get_or};
+ghost use Rattle.laws.specs.Words.{sum_below};
 ghost use Rattle.jobs.specs.{Limits.max_jobs, Limits.max_time, Jobs.jobs_of};
 ghost use Rattle.theory.specs.{Table.table_of, Runs.times_fit};
 ghost use Rattle.machine.specs.Ticks.{machine_check};
@@ -9,6 +10,7 @@ use jobs::refusal::{Check, Refusal};
 use jobs::set::JobSet;
 
 // Whether the running times are one for each job, each in its range.
+#[tactic(auto, using(crate::proofs::RunningTimes::fit_count, crate::proofs::RunningTimes::fit_below, crate::proofs::RunningTimes::fit_above, crate::proofs::RunningTimes::fit_here, crate::proofs::RunningTimes::fit_all, laws::proofs::Every::every_none, laws::proofs::Every::every_next))]
 fn are_fitting(set: JobSet, times: &[u64]) -> bool
     requires { set.count ≤ max_jobs }
     ensures { result ≡ times_fit (table_of (jobs_of set)) times.now }

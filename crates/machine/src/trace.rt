@@ -1,5 +1,6 @@
 // The trace of the run from time 0, into a lent buffer, from one release or completion to the next.
-ghost use Rattle.laws.specs.Words.{◌≡◌, ◌+◌, ◌-◌, ◌*◌, ◌≤◌, ◌<◌, cond, ◌&&◌, ltb, eqb, length, patched, ◌∷◌, []};
+ghost use Rattle.std.specs.Prelude.{◌≡◌, ◌+◌, ◌-◌, ◌*◌, ◌≤◌, ◌<◌, cond, ◌&&◌, ltb, eqb, length, ◌∷◌, []};
+ghost use Rattle.laws.specs.Words.{patched};
 ghost use Rattle.jobs.specs.{Limits.max_jobs, Jobs.jobs_of};
 ghost use Rattle.theory.proofs.{Columns.shown, Runnable.Runnable};
 ghost use Rattle.machine.specs.{Ticks.last_time, Runs.steps_of, Runs.spans, Runs.rows, Runs.trace_of, Runs.traced_in};
@@ -12,11 +13,11 @@ use jobs::job::Job;
 use jobs::refusal::{Check, Refusal};
 use jobs::set::JobSet;
 
-// Enough numbers for every trace, by the theorem `trace-within-twice`: four for each entry, and at most twice as many entries as there are jobs.
+// Enough numbers for every trace, by the theorem `trace_within_twice`: four for each entry, and at most twice as many entries as there are jobs.
 pub const MAX_NUMBERS: usize = 8 * JobSet::MAX_JOBS;
 
 // A run of the job at a place of the table.
-#[derive(Drop)]
+#[derive(Clone, Copy)]
 pub struct Span {
     pub at: usize,
     pub from: u64,
@@ -24,14 +25,14 @@ pub struct Span {
 }
 
 // How many entries a trace has, and the steps from event to event of its run.
-#[derive(Drop)]
+#[derive(Clone, Copy)]
 pub enum Traced {
     Entries { entries: usize, steps: u64 },
     Refused(Refusal),
 }
 
 // Where a leg goes in a trace: the entry that it is part of, as it then is, and how many there then are.
-#[derive(Drop)]
+#[derive(Clone, Copy)]
 pub struct Put {
     pub entry: usize,
     pub entries: usize,
@@ -76,7 +77,7 @@ fn write_entry(job: Job, put: Put, out: &mut [u64])
 }
 
 // How many entries were written, and in how many steps.
-#[derive(Drop)]
+#[derive(Clone, Copy)]
 struct Counts {
     entries: usize,
     steps: u64,

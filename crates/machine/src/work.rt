@@ -1,5 +1,6 @@
 // Work on a job.
-ghost use Rattle.laws.specs.Words.{◌≡◌, ◌+◌, ◌<◌, ◌≤◌, cond, eqb, length, set, number_at};
+ghost use Rattle.std.specs.Prelude.{◌≡◌, ◌+◌, ◌<◌, ◌≤◌, cond, eqb, length, set};
+ghost use Rattle.laws.specs.Words.{number_at};
 ghost use Rattle.jobs.specs.Limits.{max_jobs, max_time};
 ghost use Rattle.machine.specs.Ticks.{last_time};
 

@@ -13,7 +13,7 @@ use denote.Array.{each}
 use denote.Shadow.{shadow}
 use lib.ListN.{length, get_or, take, length-append}
 use lib.Seq.{take-suc, length-take-le}
-use Rattle.laws.proofs.Lists.{mapped_length, take-clipped}
+use Rattle.laws.proofs.Lists.{take-clipped}
 use Rattle.laws.specs.Words.{patched}
 use Rattle.laws.proofs.Buffers.{wrote_first, wrote_more}
 use Rattle.laws.proofs.Pieces.{Made, PiecesWritten, pieces_none, pieces_room}
@@ -67,7 +67,7 @@ Full (d ∷ ds) = (length d.blocks ≡ max_chains) × Full ds
 pub owned_full : (ds : List Delay) (vs : List Val) → shadow (each Delay the_row.own_val ds vs) → Full ds
 owned_full [] vs s = tt
 owned_full (d ∷ ds) [] s = absurd s
-owned_full (d ∷ ds) (v ∷ vs) s = (mapped_length _ _ _ d.blocks max_chains s.0.1.1.1.0.1.0.1, owned_full ds vs s.1)
+owned_full (d ∷ ds) (v ∷ vs) s = (s.0.1.1.1.0.1.0.1, owned_full ds vs s.1)
 
 take_full : (n : ℕ) (ds : List Delay) → Full ds → Full (take n ds)
 take_full zero ds h = tt

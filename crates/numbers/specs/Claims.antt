@@ -1,5 +1,6 @@
 -- What is proved of sets and states in lent memory; proofs/Claims.antt has the proof of all. Assumes nothing.
-use Rattle.laws.specs.Words.{ℕ, ◌≤◌, ◌≡◌, List, ◌++◌, length, written}
+use Rattle.std.specs.Prelude.{ℕ, ◌≤◌, ◌≡◌, List, ◌++◌, length}
+use Rattle.laws.specs.Words.{written}
 use Rattle.jobs.specs.declared.job.Job.{Job}
 use Rattle.jobs.specs.{Limits.max_jobs, Jobs.set_of}
 use Rattle.machine.specs.declared.state.State.{State}

@@ -5,7 +5,8 @@
 --   column_in, state_in         a number for each place of a set, and the state that numbers start with
 --   delay_numbers              the numbers of what delays one job; delays_numbers of each job
 --   room_check, put_check       number 9 where memory is too short
-use Rattle.laws.specs.Words.{ℕ, ◌+◌, ◌-◌, ◌*◌, ◌/◌, min, List, [], ◌∷◌, ◌++◌, leb, length, take, drop, number_at, tabulate, padded, patched}
+use Rattle.std.specs.Prelude.{ℕ, ◌+◌, ◌-◌, ◌*◌, ◌/◌, min, List, [], ◌∷◌, ◌++◌, leb, length, take, drop}
+use Rattle.laws.specs.Words.{number_at, tabulate, padded, patched}
 use Rattle.jobs.specs.declared.{job.Job.Job, set.JobSet.JobSet, refusal.Refusal.Refusal, refusal.Check.Check}
 use Rattle.jobs.specs.{Limits.max_jobs, Refusals.unless, Refusals.on_pass, Jobs.job, Jobs.no_job}
 use Rattle.machine.specs.declared.state.State.{State}

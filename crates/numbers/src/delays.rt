@@ -1,5 +1,6 @@
 // What delays each job, as numbers written into lent memory.
-ghost use Rattle.laws.specs.Words.{◌≡◌, ◌+◌, ◌*◌, ◌≤◌, min, [], ◌∷◌, length, take, patched, written};
+ghost use Rattle.std.specs.Prelude.{◌≡◌, ◌+◌, ◌*◌, ◌≤◌, min, [], ◌∷◌, length, take};
+ghost use Rattle.laws.specs.Words.{patched, written};
 ghost use Rattle.jobs.specs.Limits.{max_jobs, max_chains};
 ghost use Rattle.numbers.specs.Numbers.{block_numbers, delay_numbers, delays_numbers, room_check};
 

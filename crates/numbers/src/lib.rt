@@ -1,4 +1,6 @@
 // Sets, states and figures as numbers in memory that the caller lends.
+#![tactic(auto)]
+
 pub mod delays;
 pub mod number;
 pub mod put;

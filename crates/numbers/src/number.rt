@@ -1,5 +1,6 @@
 // One number of lent memory.
-ghost use Rattle.laws.specs.Words.{◌≡◌, number_at};
+ghost use Rattle.std.specs.Prelude.{◌≡◌};
+ghost use Rattle.laws.specs.Words.{number_at};
 
 // The number at a place, 0 beyond the last.
 pub fn number_at(numbers: &[u64], at: usize) -> u64

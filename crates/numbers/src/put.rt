@@ -1,5 +1,6 @@
 // Numbers written one after another into lent memory.
-ghost use Rattle.laws.specs.Words.{◌≡◌, ◌+◌, ◌≤◌, length, patched, written};
+ghost use Rattle.std.specs.Prelude.{◌≡◌, ◌+◌, ◌≤◌, length};
+ghost use Rattle.laws.specs.Words.{patched, written};
 ghost use Rattle.numbers.specs.Numbers.{room_check};
 
 use jobs::refusal::{Check, Refusal};

@@ -1,5 +1,6 @@
 // A set as numbers: its jobs one after another, the numbers of each in the order of a table's columns.
-ghost use Rattle.laws.specs.Words.{◌≡◌, ◌+◌, ◌*◌, ◌≤◌, ◌<◌, length, drop, patched};
+ghost use Rattle.std.specs.Prelude.{◌≡◌, ◌+◌, ◌*◌, ◌≤◌, ◌<◌, length, drop};
+ghost use Rattle.laws.specs.Words.{patched};
 ghost use Rattle.jobs.specs.{Limits.max_jobs, Jobs.jobs_of};
 ghost use Rattle.numbers.specs.Numbers.{job_size, job_numbers, numbers_of, job_in, jobs_held, set_in, held_set, put_check, put_from};
 

@@ -1,5 +1,6 @@
 // A machine's state as numbers: the time, then the work of each place, then the completion of each place.
-ghost use Rattle.laws.specs.Words.{◌≡◌, ◌≤◌, written};
+ghost use Rattle.std.specs.Prelude.{◌≡◌, ◌≤◌};
+ghost use Rattle.laws.specs.Words.{written};
 ghost use Rattle.jobs.specs.Limits.{max_jobs};
 ghost use Rattle.numbers.specs.Numbers.{state_size, state_numbers, column_in, state_in, room_check};
 

@@ -1,5 +1,5 @@
 -- What is proved of the machine's own trace as a recording; proofs/Claims.antt has the proof of all. Document 02, R-5. Assumes nothing.
-use Rattle.laws.specs.Words.{ℕ, ◌≤◌, ◌<◌, ◌≡◌, true, List, [], ◌∷◌, ◌++◌, length, get_or}
+use Rattle.std.specs.Prelude.{ℕ, ◌≤◌, ◌<◌, ◌≡◌, true, List, [], ◌∷◌, ◌++◌, length, get_or}
 use Rattle.jobs.specs.{declared.job.Job.Job, declared.refusal.Check.Check, Jobs.most_times, Checks.check_of}
 use Rattle.theory.specs.Table.{table_of}
 use Rattle.machine.specs.{declared.trace.Span.Span, Ticks.machine_check, Runs.traced}
@@ -25,7 +25,7 @@ pub record OwnTrace (js : List Job) (rows : List Row) : Type 0 where
 abbrev pub EveryTrace : Type 0
 EveryTrace = (js : List Job) (times : List ℕ) → machine_check js times ≡ Check.Passed → OwnTrace js (rows_traced (traced js times))
 
--- `trace-reads`: the text that the program `trace` prints of an accepted set, read as a recording, gives the rows of that trace.
+-- `trace_reads`: the text that the program `trace` prints of an accepted set, read as a recording, gives the rows of that trace.
 abbrev pub TraceReads : Type 0
 TraceReads =
     (js : List Job) → check_of js ≡ Check.Passed → recording_of js (trace_text js) ≡ recording_with Check.Passed (rows_traced (traced js (most_times js)))

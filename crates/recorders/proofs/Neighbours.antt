@@ -1,6 +1,6 @@
 -- What a loop over the jobs keeps of the job before the one that it is at, from which it knows when this one is ready; and the columns that it fills.
 --   Kept      the chain and the end of the job before
---   waiting   the columns of `waitingIn` after n jobs
+--   waiting   the columns of `waiting_in` after n jobs
 -- Assumes nothing.
 use Prim.Native.Nat.{ℕ, ◌+◌, ◌<◌}
 use mathlib.Core.Path.{◌≡◌, refl, sym, ap, ◌∙◌}

@@ -1,5 +1,6 @@
 -- The comparison of two recordings of one set. Document 02, R-5. Assumes nothing.
-use Rattle.laws.specs.Words.{ℕ, true, false, Option, none, some, List}
+use Rattle.std.specs.Prelude.{ℕ, true, false, List}
+use Rattle.laws.specs.Words.{Option, none, some}
 use Rattle.jobs.specs.declared.{job.Job.Job, refusal.Refusal.Refusal, refusal.Check.Check}
 use Rattle.jobs.specs.Refusals.{on_pass, and_then}
 use Rattle.theory.specs.Table.{table_of}

@@ -1,5 +1,5 @@
 // The comparison of two recordings.
-ghost use Rattle.laws.specs.Words.{◌≡◌};
+ghost use Rattle.std.specs.Prelude.{◌≡◌};
 ghost use Rattle.jobs.specs.Jobs.{jobs_of};
 ghost use Rattle.recorders.specs.Comparing.{refused_with, compared_of};
 
@@ -10,7 +10,7 @@ use jobs::set::JobSet;
 use recording::reading::read_recording;
 
 // The answer to a comparison: whether each recording is legal, and where they differ; no, no and nowhere on a refusal.
-#[derive(Drop)]
+#[derive(Clone, Copy)]
 pub struct Compared {
     pub check: Check,
     pub first: bool,

@@ -1,5 +1,5 @@
 // What the rows of a recording say of each job: its work in all, the begin of its first row and the end of its last.
-ghost use Rattle.laws.specs.Words.{◌≡◌, cond, eqb};
+ghost use Rattle.std.specs.Prelude.{◌≡◌, cond, eqb};
 ghost use Rattle.jobs.specs.Limits.{max_jobs};
 ghost use Rattle.recording.specs.Reading.{rows_of};
 ghost use Rattle.recording.proofs.Readable.{Readable};

@@ -1,5 +1,6 @@
 // Where two recordings begin to differ.
-ghost use Rattle.laws.specs.Words.{◌≡◌, ◌≤◌, min, none, some, [], ◌∷◌};
+ghost use Rattle.std.specs.Prelude.{◌≡◌, ◌≤◌, min, [], ◌∷◌};
+ghost use Rattle.laws.specs.Words.{none, some};
 ghost use Rattle.recording.specs.Reading.{max_rows, rows_of};
 ghost use Rattle.legality.specs.Differences.{first_difference};
 ghost use Rattle.recorders.specs.Comparing.{difference_at};
@@ -8,7 +9,7 @@ use recording::reading::Recording;
 use recording::row::Row;
 
 // The first tick at which two recordings show different work, 0 where there is none.
-#[derive(Drop)]
+#[derive(Clone, Copy)]
 pub struct Difference {
     pub found: bool,
     pub tick: u64,

@@ -1,5 +1,5 @@
 // Figures of the jobs, in columns by place.
-ghost use Rattle.laws.specs.Words.{◌≡◌, ◌<◌};
+ghost use Rattle.std.specs.Prelude.{◌≡◌, ◌<◌};
 ghost use Rattle.jobs.specs.Limits.{max_jobs};
 ghost use Rattle.theory.proofs.Columns.{figure as theory_figure};
 ghost use Rattle.legality.proofs.Judging.{column_count};

@@ -1,5 +1,6 @@
 // What is asked of the jobs of a recording.
-ghost use Rattle.laws.specs.Words.{◌≡◌, ◌<◌, ◌≤◌, every_below};
+ghost use Rattle.std.specs.Prelude.{◌≡◌, ◌<◌, ◌≤◌};
+ghost use Rattle.laws.specs.Words.{every_below};
 ghost use Rattle.jobs.specs.{Limits.max_jobs, Jobs.jobs_of};
 ghost use Rattle.theory.proofs.Predecessors.{not_before};
 ghost use Rattle.legality.proofs.Judging.{job_fits_in, fits_in};

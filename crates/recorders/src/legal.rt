@@ -1,5 +1,5 @@
 // Whether a recording is legal.
-ghost use Rattle.laws.specs.Words.{◌≡◌};
+ghost use Rattle.std.specs.Prelude.{◌≡◌};
 ghost use Rattle.jobs.specs.Jobs.{jobs_of};
 ghost use Rattle.theory.specs.Table.{table_of};
 ghost use Rattle.recording.specs.Reading.{rows_of};

@@ -1,4 +1,6 @@
 // Two recordings of one run: whether each is legal, and where they begin to differ.
+#![tactic(auto)]
+
 pub mod compare;
 mod course;
 pub mod difference;

@@ -1,5 +1,5 @@
 // What is asked of the rows of a recording: in no gap does a job wait, and in no row one that is more urgent.
-ghost use Rattle.laws.specs.Words.{◌≡◌, ◌<◌, ◌≤◌, cond};
+ghost use Rattle.std.specs.Prelude.{◌≡◌, ◌<◌, ◌≤◌, cond};
 ghost use Rattle.jobs.specs.Limits.{max_jobs};
 ghost use Rattle.recording.specs.Reading.{rows_of};
 ghost use Rattle.recording.proofs.Readable.{Readable};

@@ -1,5 +1,5 @@
 // What the test of a row reads of each job: from when it is ready, how urgent it is, and up to when it is ready.
-ghost use Rattle.laws.specs.Words.{◌≡◌, ◌≤◌};
+ghost use Rattle.std.specs.Prelude.{◌≡◌, ◌≤◌};
 ghost use Rattle.jobs.specs.{Limits.max_jobs, Jobs.jobs_of};
 ghost use Rattle.legality.proofs.Judging.{waiting_in};
 

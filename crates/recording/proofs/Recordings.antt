@@ -4,7 +4,7 @@ use mathlib.Core.Path.{◌≡◌, sym, ap₂}
 use mathlib.Core.List.{List, [], ◌∷◌, ◌++◌}
 use lib.ListN.{length, set, replicate, length-append}
 use lib.Seq.{take-append_seam}
-use Rattle.laws.specs.Words.{◌-◌}
+use Rattle.std.specs.Prelude.{◌-◌}
 use Rattle.laws.proofs.Lists.{padded_snoc}
 use Rattle.jobs.specs.declared.refusal.Check.{Check}
 use Rattle.recording.specs.declared.row.Row.{Row}

@@ -1,10 +1,10 @@
 -- What is proved of reading; proofs/OwnNumbers.antt and proofs/Fronts.antt have the proofs. Document 02, R-5. Assumes nothing.
-use Rattle.laws.specs.Words.{ℕ, ◌+◌, ◌*◌, ◌≡◌, ◌⊎◌, List, length, take}
+use Rattle.std.specs.Prelude.{ℕ, ◌+◌, ◌*◌, ◌≡◌, ◌⊎◌, List, length, take}
 use Rattle.decimal.specs.Fields.{max_digits}
 use Rattle.jobs.specs.{declared.job.Job.Job, declared.refusal.Refusal.Refusal, declared.refusal.Check.Check, Checks.check_of}
 use Rattle.recording.specs.Reading.{header, columns, max_rows, recording_of}
 
--- `own-numbers`: a recording of an accepted set is refused with 15 or 16 and no other number.
+-- `own_numbers`: a recording of an accepted set is refused with 15 or 16 and no other number.
 abbrev pub OwnNumbers : Type 0
 OwnNumbers =
     (js : List Job) → check_of js ≡ Check.Passed → (text : List ℕ) (x : Refusal) → (recording_of js text).check ≡ Check.Refused x
@@ -18,6 +18,6 @@ row_bytes = columns * (max_digits + 1) + 1
 abbrev pub deciding_bytes : ℕ
 deciding_bytes = length header + 2 + max_rows * row_bytes + 1
 
--- `front-decides`: how a text is read is decided by its first bytes, however long it is, so that a program has to read no more of a file.
+-- `front_decides`: how a text is read is decided by its first bytes, however long it is, so that a program has to read no more of a file.
 abbrev pub FrontDecides : Type 0
 FrontDecides = (js : List Job) (text : List ℕ) → recording_of js (take deciding_bytes text) ≡ recording_of js text

@@ -1,5 +1,6 @@
 -- A whole recording. Document 02, R-5 and its numbers 15 and 16. Assumes nothing.
-use Rattle.laws.specs.Words.{ℕ, Bool, cond, ◌&&◌, ◌||◌, none, some, List, [], ◌∷◌, ◌++◌, ltb, eqb, length, get_or, take, last_of, padded, ascii}
+use Rattle.std.specs.Prelude.{ℕ, Bool, cond, ◌&&◌, ◌||◌, List, [], ◌∷◌, ◌++◌, ltb, eqb, length, get_or, take}
+use Rattle.laws.specs.Words.{none, some, last_of, padded, ascii}
 use Rattle.jobs.specs.{declared.job.Job.Job, declared.refusal.Refusal.Refusal, declared.refusal.Check.Check, Refusals.on_pass, Jobs.place_in, Checks.check_of}
 use Rattle.table.specs.Lines.{lines_of, row_of, under}
 use Rattle.recording.specs.{declared.row.Row.Row, declared.reading.Recording.Recording, Rows.row, Rows.no_row, Rows.follows}

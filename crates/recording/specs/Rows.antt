@@ -1,5 +1,5 @@
 -- Rows of a recording and their order. Document 02, R-5 and its number 15. Assumes nothing.
-use Rattle.laws.specs.Words.{ℕ, Bool, true, not, ◌&&◌, List, [], ◌∷◌, leb, ltb, eqb}
+use Rattle.std.specs.Prelude.{ℕ, Bool, true, not, ◌&&◌, List, [], ◌∷◌, leb, ltb, eqb}
 use Rattle.recording.specs.declared.row.Row.{Row}
 
 -- A row by its job's place and its times.

@@ -1,5 +1,5 @@
 // A whole recording, from its text to its rows.
-ghost use Rattle.laws.specs.Words.{◌≡◌, []};
+ghost use Rattle.std.specs.Prelude.{◌≡◌, []};
 ghost use Rattle.jobs.specs.{declared.refusal.Check.Check, Jobs.jobs_of, Checks.check_of};
 ghost use Rattle.table.specs.Lines.{lines_of};
 ghost use Rattle.recording.specs.Reading.{row_in, recording_with, rows_from, recording_of};
@@ -19,7 +19,7 @@ pub const HEADER: [u8; 17] = *b"chain,job,from,to";
 pub const COLUMNS: usize = 4;
 
 // The answer to reading a recording: it has no row where the recording is refused. Places from count on hold no row.
-#[derive(Drop)]
+#[derive(Clone, Copy)]
 pub struct Recording {
     pub check: Check,
     pub rows: [Row; Recording::MAX_ROWS],
@@ -29,7 +29,7 @@ pub struct Recording {
 impl Recording {
     pub const MAX_ROWS: usize = 256;
 
-    // So many bytes at the start of a text decide how it is read, by the theorem `front-decides`: those of the header and of the most rows, and one more.
+    // So many bytes at the start of a text decide how it is read, by the theorem `front_decides`: those of the header and of the most rows, and one more.
     pub const DECIDING_BYTES: usize = HEADER.len()
         + 2
         + Recording::MAX_ROWS * (COLUMNS * 11 + 1)

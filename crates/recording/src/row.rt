@@ -1,9 +1,9 @@
 // A row of a recording, and its order among the others.
-ghost use Rattle.laws.specs.Words.{◌≡◌};
+ghost use Rattle.std.specs.Prelude.{◌≡◌};
 ghost use Rattle.recording.specs.{Rows.no_row, Rows.follows, Reading.is_next_row};
 
 // The job at a place of the table ran in the ticks from `from` up to `to`.
-#[derive(Drop)]
+#[derive(Clone, Copy)]
 pub struct Row {
     pub at: usize,
     pub from: u64,

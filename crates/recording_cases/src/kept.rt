@@ -1,40 +1,41 @@
 // Tables and recordings kept as files.
-ghost use Rattle.io.specs.Counts.{IsPrefixLen};
-
 use crate::comparing::print_compared;
-use crate::print::{print, print_refused};
+use crate::print::print_refused;
 use jobs::refusal::Check;
 use jobs::set::JobSet;
 use kept_tables::read_file;
 use recording::reading::Recording;
+use std::io;
+use std::rt::Files;
+use streams::print;
 
-// Reads as much of a file as the buffer has room for; one that is not there is an empty text.
-fn read_text(name: &[u8], text: &mut [u8]) -> usize
-    ensures { IsPrefixLen result text.new }
-{
-    let file = os::open_read(name);
-    let length = io::read_full(file, text);
-    libc::close(file);
-    length
-}
-
-fn print_recordings(set: JobSet, first: &[u8], second: &[u8]) {
+fn print_recordings<R: Files + Print>(
+    rt: &R,
+    set: JobSet,
+    first: &[u8],
+    second: &[u8],
+) -> io::Result<()> {
     let mut one = [0u8; Recording::DECIDING_BYTES];
-    let one_length = read_text(first, &mut one);
+    let one_length = streams::read_file(rt, first, &mut one)?;
     let mut other = [0u8; Recording::DECIDING_BYTES];
-    let other_length = read_text(second, &mut other);
-    print_compared(set, &one[..one_length], &other[..other_length]);
+    let other_length = streams::read_file(rt, second, &mut other)?;
+    print_compared(rt, set, &one[..one_length], &other[..other_length])
 }
 
 // Where the table is refused the set is empty.
-pub(crate) fn print_kept(table: &[u8], first: &[u8], second: &[u8]) {
-    let reading = read_file(table);
+pub(crate) fn print_kept<R: Files + Print>(
+    rt: &R,
+    table: &[u8],
+    first: &[u8],
+    second: &[u8],
+) -> io::Result<()> {
+    let reading = read_file(rt, table)?;
     let check = reading.check;
     if let Check::Refused(refusal) = check {
-        print(b"table ");
-        print_refused(refusal);
-        print(b", ");
+        print(rt, b"table ")?;
+        print_refused(rt, refusal)?;
+        print(rt, b", ")?;
     }
     let set = reading.set;
-    print_recordings(set, first, second);
+    print_recordings(rt, set, first, second)
 }

@@ -1,43 +1,36 @@
 // Prints a line for each case. Four arguments give one: its name, and the files of a table, of a first and of a second recording. The line has the
 // name, what reading each recording comes to and whether it is legal, and where the two differ; on a refusal of the comparison its number.
+#![tactic(auto)]
+
 mod comparing;
 mod kept;
 mod print;
 
 use crate::kept::print_kept;
-use crate::print::print;
+use std::rt::Files;
+use std::{env, io};
+use streams::{argument, print};
 
-// Each fourth argument is the last of a case.
-fn print_argument(i: usize) {
-    if i < 4 {
-        return;
-    }
-    if i % 4 != 0 {
-        return;
-    }
-    let mut name = [0u8; 64];
-    let name_length = os::arg(i - 3, &mut name);
-    let mut table = [0u8; 64];
-    let table_length = os::arg(i - 2, &mut table);
-    let mut first = [0u8; 64];
-    let first_length = os::arg(i - 1, &mut first);
-    let mut second = [0u8; 64];
-    let second_length = os::arg(i, &mut second);
-    print(&name[..name_length]);
-    print(b": ");
+// The case that the first four arguments give.
+fn print_case<R: Files + Print>(rt: &R, arguments: &[String]) -> io::Result<()> {
+    print(rt, argument(arguments, 0))?;
+    print(rt, b": ")?;
     print_kept(
-        &table[..table_length],
-        &first[..first_length],
-        &second[..second_length],
-    );
-    print(b"\n");
+        rt,
+        argument(arguments, 1),
+        argument(arguments, 2),
+        argument(arguments, 3),
+    )?;
+    print(rt, b"\n")
 }
 
-fn main() {
-    let count = os::arg_count();
-    let mut i: usize = 1;
-    while i < count {
-        print_argument(i);
-        i += 1;
+// Each fourth argument is the last of a case.
+fn main(rt: HostRuntime) -> io::Result<()> {
+    let arguments: Vec<String> = env::args(&rt)?.collect(rt.alloc())?;
+    for i in 1..arguments.len() {
+        if i % 4 == 0 {
+            print_case(&rt, &arguments[i - 3..])?;
+        }
     }
+    Ok(())
 }

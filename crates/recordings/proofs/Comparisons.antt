@@ -10,7 +10,7 @@ use Rattle.table.specs.declared.reading.Reading.{Reading}
 use Rattle.table.specs.Tables.{reading_of}
 use Rattle.table.proofs.Accepting.{read_check, read_jobs}
 use Rattle.texts.specs.declared.written.Written.{Written}
-use Rattle.texts.specs.declared.written.Written.TheVariants.{Refused as Written-as-Refused}
+use Rattle.texts.specs.declared.written.Written.TheVariants.{Refused as written_refused}
 use Rattle.texts.specs.Answers.{answer_to}
 use Rattle.recorders.specs.declared.compare.Compared.{Compared}
 use Rattle.recorders.specs.Comparing.{compared_of}
@@ -21,7 +21,7 @@ module _ (table first second buffer : List ℕ) {reading : Reading} (is : readin
   abbrev pub Answers : Written → List ℕ → Type 0
   Answers answer after = (answer ≡ comparison_answer table first second buffer) × (after ≡ comparison_left table first second buffer)
 
-  pub table_refused : {refusal : Refusal} → reading.check ≡ Refused refusal → Answers (Written-as-Refused refusal) buffer
+  pub table_refused : {refusal : Refusal} → reading.check ≡ Refused refusal → Answers (written_refused refusal) buffer
   unfolding comparison_answer comparison_left
   table_refused e = let told = read_check is e in (rw told refl, rw told refl)
 
@@ -29,7 +29,7 @@ module _ (table first second buffer : List ℕ) {reading : Reading} (is : readin
     compared_is : compared_of (jobs_of (reading_of table).set) first second ≡ compared
     compared_is = ap (λ js. compared_of js first second) (sym (read_jobs is)) ∙ sym made
 
-    pub recording_refused : {refusal : Refusal} → compared.check ≡ Refused refusal → Answers (Written-as-Refused refusal) buffer
+    pub recording_refused : {refusal : Refusal} → compared.check ≡ Refused refusal → Answers (written_refused refusal) buffer
     unfolding comparison_answer comparison_left
     recording_refused e = let told = read_check is passed in (rw (told, compared_is, e) refl, rw (told, compared_is, e) refl)
 

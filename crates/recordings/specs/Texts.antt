@@ -4,7 +4,8 @@
 --   compared_text       the three lines
 --   comparison_answer   what its writer answers
 --   comparison_left     what the buffer holds after it
-use Rattle.laws.specs.Words.{ℕ, ◌^◌, ◌≤◌, ◌<◌, Bool, cond, List, ◌++◌, length, ascii, written}
+use Rattle.std.specs.Prelude.{ℕ, ◌^◌, ◌≤◌, ◌<◌, Bool, cond, List, ◌++◌, length}
+use Rattle.laws.specs.Words.{ascii, written}
 use Rattle.decimal.specs.Digits.{decimal}
 use Rattle.jobs.specs.Refusals.{on_pass}
 use Rattle.table.specs.Tables.{on_table}
@@ -42,6 +43,6 @@ comparison_left table first second buffer =
 abbrev pub max_compared_text : ℕ
 max_compared_text = 64
 
--- `compared-fits`: such a buffer has room for the text of every comparison, whose tick is a word, so that none is refused with 9.
+-- `compared_fits`: such a buffer has room for the text of every comparison, whose tick is a word, so that none is refused with 9.
 abbrev pub ComparedFits : Type 0
 ComparedFits = (compared : Compared) → compared.difference.tick < 2 ^ 64 → length (compared_text compared) ≤ max_compared_text

@@ -1,5 +1,5 @@
 // A line of the text at a place of a buffer, as far as it has room; each function answers the place after what it puts.
-ghost use Rattle.laws.specs.Words.{◌+◌, ◌≤◌, length};
+ghost use Rattle.std.specs.Prelude.{◌+◌, ◌≤◌, length};
 ghost use Rattle.laws.proofs.Clipped.{Put};
 ghost use Rattle.recordings.specs.Texts.{legal_line, difference_line, max_compared_text};
 

@@ -1,5 +1,6 @@
 // The text of a comparison of two recordings.
-ghost use Rattle.laws.specs.Words.{◌≡◌, written as the-written-Laws};
+ghost use Rattle.std.specs.Prelude.{◌≡◌};
+ghost use Rattle.laws.specs.Words.{written as laws_written};
 ghost use Rattle.laws.proofs.Clipped.{Put};
 ghost use Rattle.texts.specs.Answers.{answer_to};
 ghost use Rattle.recordings.specs.Texts.{compared_text, comparison_answer, comparison_left};
@@ -10,7 +11,7 @@ use recorders::compare::{Compared, compare};
 use table::reading::read;
 use texts::written::Written;
 
-// Enough for the text of every comparison, by the theorem `compared-fits`.
+// Enough for the text of every comparison, by the theorem `compared_fits`.
 pub const MAX_COMPARED_TEXT: usize = 64;
 
 // Puts as much of the text as the buffer has room for, and answers how many bytes the text takes.
@@ -25,7 +26,7 @@ fn put_text(compared: Compared, out: &mut [u8]) -> usize
 // Writes the text; its length is what it takes in a buffer of no bytes, so that a short buffer stays as it was.
 fn write_compared(compared: Compared, out: &mut [u8]) -> Written
     ensures value { result ≡ answer_to (compared_text compared) out.old }
-    ensures out_after { out.new ≡ the-written-Laws (compared_text compared) out.old }
+    ensures out_after { out.new ≡ laws_written (compared_text compared) out.old }
 {
     let length = put_text(compared, &mut out[..0]);
     if out.len() < length {

@@ -2,7 +2,8 @@
 --   table_text     the header, and a line for each job
 --   table_answer   how many bytes the text takes in a buffer, or the refusal
 --   table_left     the buffer after it
-use Rattle.laws.specs.Words.{ℕ, ◌≤◌, ◌≡◌, List, [], ◌∷◌, ◌++◌, map, length, ℤ, pos, ascii, written}
+use Rattle.std.specs.Prelude.{ℕ, ◌≤◌, ◌≡◌, List, [], ◌∷◌, ◌++◌, map, length, ℤ, pos}
+use Rattle.laws.specs.Words.{ascii, written}
 use Rattle.jobs.specs.declared.{job.Job.Job, refusal.Check.Check}
 use Rattle.jobs.specs.{Refusals.on_pass, Jobs.set_of, Checks.check_of}
 use Rattle.table.specs.Tables.{header, max_text, reading_of}

@@ -1,5 +1,6 @@
 -- The texts that are printed. Document 01, "Programs and the C side". Assumes nothing.
-use Rattle.laws.specs.Words.{ℕ, ◌*◌, ◌≤◌, ◌≡◌, List, [], ◌∷◌, ◌++◌, map, length, get_or, take, drop, ℤ, pos, tabulate, ascii}
+use Rattle.std.specs.Prelude.{ℕ, ◌*◌, ◌≤◌, ◌≡◌, List, [], ◌∷◌, ◌++◌, map, length, get_or, take, drop, ℤ, pos}
+use Rattle.laws.specs.Words.{tabulate, ascii}
 use Rattle.jobs.specs.declared.{job.Job.Job, refusal.Check.Check}
 use Rattle.jobs.specs.{Limits.max_jobs, Jobs.job_at, Jobs.most_times, Checks.check_of}
 use Rattle.theory.specs.{Table.table_of, Bounds.ert, Bounds.cja, Bounds.itr, Bounds.slacks}
@@ -39,6 +40,6 @@ trace_text js =
 abbrev pub max_bytes : ℕ
 max_bytes = 64 * max_jobs
 
--- `texts-fit`: such a buffer has room for both texts of an accepted set, so that none is refused with 9.
+-- `texts_fit`: such a buffer has room for both texts of an accepted set, so that none is refused with 9.
 abbrev pub TextsFit : Type 0
 TextsFit = (js : List Job) → check_of js ≡ Check.Passed → (length (bounds_text js) ≤ max_bytes) × (length (trace_text js) ≤ max_bytes)

@@ -1,5 +1,6 @@
 // The bounds text of a table.
-ghost use Rattle.laws.specs.Words.{◌≡◌, ◌++◌, ◌≤◌, tabulate, written as the-written-Laws};
+ghost use Rattle.std.specs.Prelude.{◌≡◌, ◌++◌, ◌≤◌};
+ghost use Rattle.laws.specs.Words.{tabulate, written as laws_written};
 ghost use Rattle.jobs.specs.Limits.{max_jobs};
 ghost use Rattle.texts.specs.Lines.{lines_text};
 ghost use Rattle.report.specs.Texts.{bounds_header, bounds_row, bounds_text};
@@ -18,7 +19,7 @@ const HEADER: [u8; 29] = *b"chain,job,ert,cja,itr,slack\r\n";
 // Writes the header and the rows; the length is worked out first, so that a short buffer stays as it was.
 fn write_bounds(set: JobSet, figures: Figures, out: &mut [u8]) -> Written
     requires { set.count ≤ max_jobs }
-    ensures { let text = bounds_header ++ lines_text (tabulate 0 set.count (bounds_row set.jobs figures.ert figures.cja figures.itr figures.slacks)) in (result ≡ answer_to text out.old) × (out.new ≡ the-written-Laws text out.old) }
+    ensures { let text = bounds_header ++ lines_text (tabulate 0 set.count (bounds_row set.jobs figures.ert figures.cja figures.itr figures.slacks)) in (result ≡ answer_to text out.old) × (out.new ≡ laws_written text out.old) }
 {
     let header = HEADER;
     let length = header.len() + rows_length(set, figures);

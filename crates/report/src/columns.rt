@@ -1,5 +1,6 @@
 // Numbers with single commas between them, also as a line, and bytes as they are, at a place of a buffer that has room for them.
-ghost use Rattle.laws.specs.Words.{◌≡◌, ◌+◌, ◌*◌, ◌≤◌, cond, [], ◌∷◌, map, eqb, pos, length, drop, patched};
+ghost use Rattle.std.specs.Prelude.{◌≡◌, ◌+◌, ◌*◌, ◌≤◌, cond, [], ◌∷◌, map, eqb, pos, length, drop};
+ghost use Rattle.laws.specs.Words.{patched};
 ghost use Rattle.decimal.specs.Digits.{decimal};
 ghost use Rattle.texts.specs.Lines.{after_commas, lines_text};
 

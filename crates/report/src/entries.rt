@@ -1,5 +1,6 @@
 // The rows of the trace text: four numbers each, one row after another in a slice.
-ghost use Rattle.laws.specs.Words.{◌≡◌, ◌+◌, ◌*◌, ◌≤◌, length, tabulate, patched};
+ghost use Rattle.std.specs.Prelude.{◌≡◌, ◌+◌, ◌*◌, ◌≤◌, length};
+ghost use Rattle.laws.specs.Words.{tabulate, patched};
 ghost use Rattle.jobs.specs.Limits.{max_jobs};
 ghost use Rattle.texts.specs.Lines.{lines_text};
 ghost use Rattle.report.specs.Texts.{entry_row};

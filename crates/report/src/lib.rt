@@ -1,4 +1,6 @@
 // The texts that the programs print, written into a lent buffer.
+#![tactic(auto)]
+
 pub mod bounds;
 mod columns;
 mod entries;

@@ -1,5 +1,6 @@
 // The text of a table that lists the jobs of a set.
-ghost use Rattle.laws.specs.Words.{◌≡◌, ◌+◌, ◌*◌, ◌≤◌, map, pos, length, patched};
+ghost use Rattle.std.specs.Prelude.{◌≡◌, ◌+◌, ◌*◌, ◌≤◌, map, pos, length};
+ghost use Rattle.laws.specs.Words.{patched};
 ghost use Rattle.jobs.specs.{Limits.max_jobs, Jobs.jobs_of};
 ghost use Rattle.texts.specs.Lines.{lines_text};
 ghost use Rattle.report.specs.Listing.{table_row, table_answer, table_left};

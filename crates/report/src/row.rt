@@ -1,5 +1,6 @@
 // A row of the bounds text.
-ghost use Rattle.laws.specs.Words.{◌≡◌, ◌+◌, ◌≤◌, ◌<◌, [], ◌∷◌, pos, length, get_or, patched};
+ghost use Rattle.std.specs.Prelude.{◌≡◌, ◌+◌, ◌≤◌, ◌<◌, [], ◌∷◌, pos, length, get_or};
+ghost use Rattle.laws.specs.Words.{patched};
 ghost use Rattle.jobs.specs.Limits.{max_jobs};
 ghost use Rattle.texts.specs.Lines.{after_commas, lines_text};
 
@@ -9,7 +10,7 @@ use jobs::job::Job;
 use jobs::set::JobSet;
 
 // The columns of a row.
-#[derive(Drop)]
+#[derive(Clone, Copy)]
 pub struct Row {
     pub chain: u64,
     pub job: u64,

@@ -1,5 +1,6 @@
 // The trace text of a table.
-ghost use Rattle.laws.specs.Words.{◌≡◌, ◌++◌, ◌*◌, ◌≤◌, length, tabulate, written as the-written-Laws};
+ghost use Rattle.std.specs.Prelude.{◌≡◌, ◌++◌, ◌*◌, ◌≤◌, length};
+ghost use Rattle.laws.specs.Words.{tabulate, written as laws_written};
 ghost use Rattle.jobs.specs.{Limits.max_jobs, Jobs.jobs_of, Checks.check_of};
 ghost use Rattle.texts.specs.Lines.{lines_text};
 ghost use Rattle.report.specs.Texts.{trace_header, entry_row, trace_text};
@@ -18,7 +19,7 @@ const HEADER: [u8; 19] = *b"chain,job,from,to\r\n";
 // Writes the header and the rows; the length is worked out first, so that a short buffer stays as it was.
 fn write_trace(numbers: &[u64], count: usize, out: &mut [u8]) -> Written
     requires { (4 * count ≤ length numbers.now) × (count ≤ 2 * max_jobs) }
-    ensures { let text = trace_header ++ lines_text (tabulate 0 count (entry_row numbers.now)) in (result ≡ answer_to text out.old) × (out.new ≡ the-written-Laws text out.old) }
+    ensures { let text = trace_header ++ lines_text (tabulate 0 count (entry_row numbers.now)) in (result ≡ answer_to text out.old) × (out.new ≡ laws_written text out.old) }
 {
     let header = HEADER;
     let length = header.len() + entries_length(numbers, count);
@@ -33,7 +34,7 @@ fn write_trace(numbers: &[u64], count: usize, out: &mut [u8]) -> Written
 // The trace text of an accepted set; the machine does not refuse its most times.
 fn trace_set(set: JobSet, out: &mut [u8]) -> Written
     requires { check_of (jobs_of set) ≡ Check.Passed }
-    ensures { (result ≡ answer_to (trace_text (jobs_of set)) out.old) × (out.new ≡ the-written-Laws (trace_text (jobs_of set)) out.old) }
+    ensures { (result ≡ answer_to (trace_text (jobs_of set)) out.old) × (out.new ≡ laws_written (trace_text (jobs_of set)) out.old) }
 {
     let most = most_times(set);
     let mut numbers = [0u64; MAX_NUMBERS];

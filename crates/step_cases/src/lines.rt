@@ -1,8 +1,11 @@
 // Lines of numbers kept as files: a comma between two numbers, a line feed after each line.
 use jobs::set::JobSet;
+use std::io;
+use std::rt::Files;
+use streams::read_file;
 
 // The numbers of a text, those of each line from a place of its own on, and 0 where a line has no more; how many each line has; the line that has begun.
-#[derive(Drop)]
+#[derive(Clone, Copy)]
 pub(crate) struct Lines {
     pub values: [u64; Lines::MAX * Lines::LENGTH],
     pub counts: [usize; Lines::MAX],
@@ -69,19 +72,15 @@ fn lines_in(text: &[u8]) -> Lines {
         counts: [0; Lines::MAX],
         begun: 0,
     };
-    let mut i: usize = 0;
-    while i < text.len() {
-        lines = with_byte(lines, text[i]);
-        i += 1;
+    for byte in text {
+        lines = with_byte(lines, *byte);
     }
     lines
 }
 
 // A file that is not there holds no number.
-pub(crate) fn lines_of(name: &[u8]) -> Lines {
-    let file = os::open_read(name);
+pub(crate) fn lines_of<R: Files>(rt: &R, name: &[u8]) -> io::Result<Lines> {
     let mut text = [0u8; 512];
-    let length = io::read_full(file, &mut text);
-    libc::close(file);
-    lines_in(&text[..length])
+    let length = read_file(rt, name, &mut text)?;
+    Ok(lines_in(&text[..length]))
 }

@@ -1,5 +1,6 @@
 -- The lines of a text, and the fields of a line. Document 01, "A job table", and number 3. Assumes nothing.
-use Rattle.laws.specs.Words.{ℕ, zero, suc, ◌+◌, Bool, cond, ◌&&◌, Option, none, some, List, [], ◌∷◌, ◌++◌, leb, eqb, length, drop, same_up_to, padded}
+use Rattle.std.specs.Prelude.{ℕ, zero, suc, ◌+◌, Bool, cond, ◌&&◌, List, [], ◌∷◌, ◌++◌, leb, eqb, length, drop}
+use Rattle.laws.specs.Words.{Option, none, some, same_up_to, padded}
 use Rattle.laws.specs.Lines.{first_line, line_length}
 use Rattle.decimal.specs.{declared.field.Field.Field, Fields.field_of}
 use Rattle.jobs.specs.declared.{refusal.Refusal.Refusal, refusal.Check.Check}

@@ -1,5 +1,6 @@
 -- A whole job table. Document 01, "A job table", and numbers 1 to 7; document 02, R-4. Assumes nothing.
-use Rattle.laws.specs.Words.{ℕ, cond, none, some, List, [], ◌∷◌, ◌++◌, leb, length, get_or, last_of, ascii}
+use Rattle.std.specs.Prelude.{ℕ, cond, List, [], ◌∷◌, ◌++◌, leb, length, get_or}
+use Rattle.laws.specs.Words.{none, some, last_of, ascii}
 use Rattle.jobs.specs.declared.{job.Job.Job, refusal.Refusal.Refusal, refusal.Check.Check}
 use Rattle.jobs.specs.{Refusals.on_pass, Jobs.job, Jobs.no_job, Jobs.jobs_of, Jobs.set_of, Checks.record_check, Checks.any_record}
 use Rattle.table.specs.{declared.reading.Reading.Reading, Lines.lines_of, Lines.max_columns, Lines.row_of, Lines.under}

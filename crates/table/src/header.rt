@@ -1,5 +1,5 @@
 // The first line of a text, where it is a header.
-ghost use Rattle.laws.specs.Words.{◌≡◌};
+ghost use Rattle.std.specs.Prelude.{◌≡◌};
 ghost use Rattle.table.specs.Lines.{starts_with, end_behind};
 
 use crate::line::{End, read_end};

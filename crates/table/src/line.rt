@@ -1,5 +1,6 @@
 // One line of a table after the first: fields with single commas.
-ghost use Rattle.laws.specs.Words.{◌≡◌, ◌≤◌, ◌<◌, ◌+◌, cond, eqb, none, drop, get_or};
+ghost use Rattle.std.specs.Prelude.{◌≡◌, ◌≤◌, ◌<◌, ◌+◌, cond, eqb, drop, get_or};
+ghost use Rattle.laws.specs.Words.{none};
 ghost use Rattle.laws.specs.Lines.{first_line, line_length};
 ghost use Rattle.decimal.specs.Fields.{field_of};
 ghost use Rattle.table.specs.Lines.{max_columns, row_of, line_with, line_of, end_of};
@@ -11,14 +12,14 @@ use jobs::refusal::{Check, Refusal};
 pub const MAX_COLUMNS: usize = 7;
 
 // Whether a line ends at the start of a text, and how many bytes its end takes.
-#[derive(Drop)]
+#[derive(Clone, Copy)]
 pub enum End {
     Here { length: usize },
     Elsewhere,
 }
 
 // The values of a line's fields, and how many bytes the line takes with its end.
-#[derive(Drop)]
+#[derive(Clone, Copy)]
 pub struct Line {
     pub check: Check,
     pub values: [u64; MAX_COLUMNS],

@@ -1,5 +1,5 @@
 // A whole job table, from its text to the set of its jobs.
-ghost use Rattle.laws.specs.Words.{◌≡◌, []};
+ghost use Rattle.std.specs.Prelude.{◌≡◌, []};
 ghost use Rattle.table.specs.{Lines.lines_of, Tables.job_of, Tables.refused_with, Tables.records_from, Tables.reading_of};
 
 use crate::header::{HEADER, read_header};
@@ -13,7 +13,7 @@ use jobs::set::JobSet;
 pub const MAX_TEXT: usize = 4096;
 
 // The answer to reading a table: the set is empty where the table is refused.
-#[derive(Drop)]
+#[derive(Clone, Copy)]
 pub struct Reading {
     pub check: Check,
     pub set: JobSet,

@@ -1,5 +1,6 @@
 -- A text in a lent buffer: what its writer answers, what a program prints. Document 01, "Programs and the C side", and number 9. Assumes nothing.
-use Rattle.laws.specs.Words.{ℕ, cond, List, ◌++◌, leb, length, ascii, written, written_length}
+use Rattle.std.specs.Prelude.{ℕ, cond, List, ◌++◌, leb, length}
+use Rattle.laws.specs.Words.{ascii, written, written_length}
 use Rattle.decimal.specs.Digits.{decimal}
 use Rattle.jobs.specs.{declared.job.Job.Job, declared.refusal.Refusal.Refusal, Refusals.number_of}
 use Rattle.table.specs.Tables.{on_table}

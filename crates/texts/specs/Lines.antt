@@ -1,5 +1,6 @@
 -- Lines of integers with single commas. Document 01, "Programs and the C side". Assumes nothing.
-use Rattle.laws.specs.Words.{ℕ, List, [], ◌∷◌, ◌++◌, drop, ℤ, ascii}
+use Rattle.std.specs.Prelude.{ℕ, List, [], ◌∷◌, ◌++◌, drop, ℤ}
+use Rattle.laws.specs.Words.{ascii}
 use Rattle.decimal.specs.Digits.{signed}
 
 -- Integers, each after a comma, code 44.

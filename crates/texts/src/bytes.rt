@@ -1,5 +1,6 @@
 // Bytes and numbers at a place of a buffer that may have no room for all of them.
-ghost use Rattle.laws.specs.Words.{◌≡◌, ◌-◌, min, length, clipped};
+ghost use Rattle.std.specs.Prelude.{◌≡◌, ◌-◌, min, length};
+ghost use Rattle.laws.specs.Words.{clipped};
 ghost use Rattle.decimal.specs.Digits.{decimal};
 
 use decimal::unsigned::write_unsigned;

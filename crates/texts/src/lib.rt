@@ -1,4 +1,6 @@
 // Texts in a lent buffer: their pieces, what their writers answer, and the line of a refusal.
+#![tactic(auto)]
+
 pub mod bytes;
 pub mod refused;
 pub mod written;

@@ -1,5 +1,6 @@
 // The line that a refusal prints, and how much of a buffer a program prints.
-ghost use Rattle.laws.specs.Words.{◌≡◌, written, written_length};
+ghost use Rattle.std.specs.Prelude.{◌≡◌};
+ghost use Rattle.laws.specs.Words.{written, written_length};
 ghost use Rattle.texts.specs.Answers.{refused_text, print_length, print_left};
 
 use crate::bytes::{put_bytes, put_number};

@@ -7,7 +7,8 @@ use mathlib.Core.Bool.{Bool, true, cond}
 use native.Mathlib.Omega.{arith}
 use lib.Dec.{eqb}
 use borrow.Author.Tests.{eq-eqb, eqb-true}
-use Rattle.laws.specs.Words.{List, number_at}
+use Rattle.std.specs.Prelude.{List}
+use Rattle.laws.specs.Words.{number_at}
 use Rattle.laws.proofs.Tests.{by_test, by_equal, both_ways, and_left, and_right, and_both}
 use Rattle.laws.proofs.Sums.{sum_ext}
 use Rattle.laws.proofs.Greatest.{attained}

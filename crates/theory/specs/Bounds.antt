@@ -1,6 +1,7 @@
 -- The bounds: interference, ERT, CJA, ITR and its rounds, slack and verdict. Document 01, "Bounds". Assumes nothing.
 -- Sums over blocks are of a weight by place: the most times, or 0 for a job that does not count.
-use Rattle.laws.specs.Words.{ℕ, zero, suc, ◌+◌, ◌-◌, ◌*◌, max, min, Bool, true, false, cond, ◌&&◌, List, leb, ltb, eqb, length, ℤ, pos, ◌-ℤ◌, number_at, sum_below, greatest, every_below, same_up_to, tabulate}
+use Rattle.std.specs.Prelude.{ℕ, zero, suc, ◌+◌, ◌-◌, ◌*◌, max, min, Bool, true, false, cond, ◌&&◌, List, leb, ltb, eqb, length, ℤ, pos, ◌-ℤ◌}
+use Rattle.laws.specs.Words.{number_at, sum_below, greatest, every_below, same_up_to, tabulate}
 use Rattle.jobs.specs.{declared.job.Job.Job, Jobs.job_at}
 use Rattle.theory.specs.Table.{Table, joined, table_of}
 

@@ -1,5 +1,6 @@
 -- What is proved of every accepted set; proofs/Claims has the proof of all. Document 01, "The runs of demand 3". Assumes nothing.
-use Rattle.laws.specs.Words.{ℕ, zero, suc, ◌+◌, ◌≤◌, ◌<◌, max, ◌≡◌, ◌≢◌, true, List, length, number_at}
+use Rattle.std.specs.Prelude.{ℕ, zero, suc, ◌+◌, ◌≤◌, ◌<◌, max, ◌≡◌, ◌≢◌, true, List, length}
+use Rattle.laws.specs.Words.{number_at}
 use Rattle.jobs.specs.{declared.job.Job.Job, declared.refusal.Check.Check, Checks.check_of}
 use Rattle.theory.specs.{Table.Table, Table.table_of, Bounds.ert, Bounds.cja, Bounds.bound_limit, Bounds.round, Bounds.after, Bounds.Answer, Bounds.round_limit, Bounds.overlap, Bounds.itr, Delays.ert_delay, Delays.cja_delay, Delays.itr_delay, Delays.ByErt, Delays.ByPair, Runs.Entry, Runs.times_fit, Runs.releases_fit, Runs.is_run, Runs.CompleteBy}
 

@@ -6,7 +6,8 @@
 --   first_pair     the least k whose sum is the bound of j by CJA or a round
 --   Delay         the job from which the bound's sum begins, and the blocks in it, as ByErt and ByPair say
 --   ert_begin      when the sum of an ERT bound begins
-use Rattle.laws.specs.Words.{ℕ, zero, suc, ◌+◌, ◌-◌, ◌≤◌, ◌<◌, max, ◌≡◌, ◌≢◌, ◌↔◌, Bool, true, cond, not, ◌&&◌, List, leb, ltb, eqb, number_at, sum_below, greatest, first_below}
+use Rattle.std.specs.Prelude.{ℕ, zero, suc, ◌+◌, ◌-◌, ◌≤◌, ◌<◌, max, ◌≡◌, ◌≢◌, ◌↔◌, Bool, true, cond, not, ◌&&◌, List, leb, ltb, eqb}
+use Rattle.laws.specs.Words.{number_at, sum_below, greatest, first_below}
 use Rattle.theory.specs.{Table.Table, Table.joined, Bounds.open_block, Bounds.largest_block, Bounds.interference, Bounds.ert, Bounds.demand, Bounds.lowest, Bounds.pair_bound, Bounds.largest_pair, Bounds.overlap, Bounds.itr}
 
 -- The jobs from place `first` to before place `end`; none where both are 0.

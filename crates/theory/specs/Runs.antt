@@ -1,6 +1,7 @@
 -- The runs of demand 3. Document 01, "The runs of demand 3". Nothing here is taken from the machine or its state: a job's work is given by its place,
 -- and the tick by its number. Assumes nothing.
-use Rattle.laws.specs.Words.{ℕ, zero, suc, ◌+◌, ◌≤◌, ◌≡◌, Bool, true, false, cond, not, ◌&&◌, ◌||◌, List, leb, ltb, eqb, length, get_or, number_at, every_below}
+use Rattle.std.specs.Prelude.{ℕ, zero, suc, ◌+◌, ◌≤◌, ◌≡◌, Bool, true, false, cond, not, ◌&&◌, ◌||◌, List, leb, ltb, eqb, length, get_or}
+use Rattle.laws.specs.Words.{number_at, every_below}
 use Rattle.theory.specs.Table.{Table, joined}
 
 -- One tick of a run: a job of the table, by its place, or idle.

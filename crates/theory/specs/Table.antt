@@ -1,6 +1,6 @@
 -- A table of jobs, as the rules read it: place by place from 0, in table order, with effective releases. Document 01, "Bounds", first paragraph.
--- Only here and in `urgencyOf` do the rules know what a job's record holds. Assumes nothing.
-use Rattle.laws.specs.Words.{ℕ, zero, suc, ◌+◌, max, Bool, cond, List, eqb, length}
+-- Only here and in `urgency_of` do the rules know what a job's record holds. Assumes nothing.
+use Rattle.std.specs.Prelude.{ℕ, zero, suc, ◌+◌, max, Bool, cond, List, eqb, length}
 use Rattle.jobs.specs.{declared.job.Job.Job, Jobs.job_at, Jobs.urgency_of}
 
 -- How many jobs there are and, by place, the figures of each.

@@ -1,53 +1,64 @@
 // Traces into buffers at the edge of refusal 9.
-use crate::print::{print, print_number, print_refused};
+use crate::print::{print_number, print_refused};
 use jobs::most::most_times;
 use jobs::set::JobSet;
 use kept_tables::set_of;
 use machine::trace::{MAX_NUMBERS, Traced, trace};
+use std::io;
+use std::rt::Files;
+use streams::print;
 
 // How long the buffer is, what a trace into it answers, and the first number that it then holds.
-fn print_traced(set: JobSet, times: &[u64], numbers: &mut [u64]) {
-    print(b" ");
-    print_number(numbers.len() as u64);
-    print(b" numbers ");
+fn print_traced<R: Print>(
+    rt: &R,
+    set: JobSet,
+    times: &[u64],
+    numbers: &mut [u64],
+) -> io::Result<()> {
+    print(rt, b" ")?;
+    print_number(rt, numbers.len() as u64)?;
+    print(rt, b" numbers ")?;
     match trace(set, times, numbers) {
-        Traced::Refused(refusal) => print_refused(refusal),
+        Traced::Refused(refusal) => print_refused(rt, refusal)?,
         Traced::Entries { entries, .. } => {
-            print_number(entries as u64);
-            print(b" entries");
+            print_number(rt, entries as u64)?;
+            print(rt, b" entries")?;
         }
     }
     if 0 < numbers.len() {
-        print(b", first ");
-        print_number(numbers[0]);
+        print(rt, b", first ")?;
+        print_number(rt, numbers[0])?;
     }
-    print(b";");
+    print(rt, b";")
 }
 
 // A trace into a buffer of this many numbers, each of them 7 before.
-fn print_into(set: JobSet, times: &[u64], room: usize) {
+fn print_into<R: Print>(rt: &R, set: JobSet, times: &[u64], room: usize) -> io::Result<()> {
     let mut numbers = [7u64; MAX_NUMBERS];
     if room <= MAX_NUMBERS {
-        print_traced(set, times, &mut numbers[..room]);
+        print_traced(rt, set, times, &mut numbers[..room])?;
     }
+    Ok(())
 }
 
 // Eight numbers for each job are enough, one fewer is not.
-fn print_sides(set: JobSet, times: &[u64]) {
+fn print_sides<R: Print>(rt: &R, set: JobSet, times: &[u64]) -> io::Result<()> {
     let count = times.len();
     if 0 < count {
         if count <= JobSet::MAX_JOBS {
-            print_into(set, times, 8 * count - 1);
-            print_into(set, times, 8 * count);
+            print_into(rt, set, times, 8 * count - 1)?;
+            print_into(rt, set, times, 8 * count)?;
         }
     }
+    Ok(())
 }
 
-pub(crate) fn print_edge(name: &[u8]) {
-    let set = set_of(name);
+pub(crate) fn print_edge<R: Files + Print>(rt: &R, name: &[u8]) -> io::Result<()> {
+    let set = set_of(rt, name)?;
     let times = most_times(set);
     let count = set.count;
     if count <= JobSet::MAX_JOBS {
-        print_sides(set, &times[..count]);
+        print_sides(rt, set, &times[..count])?;
     }
+    Ok(())
 }

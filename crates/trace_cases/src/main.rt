@@ -1,40 +1,37 @@
 // Prints one line for each case named as an argument: its name, and what the machine makes of the table kept under it.
 //   trace/NAME   the entries of the run with all most times, its end, and its steps from event to event
 //   edge/NAME    the trace with a buffer one number short, and with one just long enough
+#![tactic(auto)]
+
 mod edges;
 mod print;
 mod traces;
 
 use crate::edges::print_edge;
-use crate::print::print;
 use crate::traces::print_trace;
+use std::rt::Files;
+use std::{env, io};
+use streams::{argument, print};
 
 // The first letter of the name tells what is asked.
-fn print_case(name: &[u8]) {
+fn print_case<R: Files + Print>(rt: &R, name: &[u8]) -> io::Result<()> {
     if name.len() == 0 {
-        return;
+        return Ok(());
     }
-    print(name);
-    print(b":");
+    print(rt, name)?;
+    print(rt, b":")?;
     if name[0] == b't' {
-        print_trace(name);
+        print_trace(rt, name)?;
     } else {
-        print_edge(name);
+        print_edge(rt, name)?;
     }
-    print(b"\n");
+    print(rt, b"\n")
 }
 
-fn print_argument(i: usize) {
-    let mut name = [0u8; 64];
-    let length = os::arg(i, &mut name);
-    print_case(&name[..length]);
-}
-
-fn main() {
-    let count = os::arg_count();
-    let mut i: usize = 1;
-    while i < count {
-        print_argument(i);
-        i += 1;
+fn main(rt: HostRuntime) -> io::Result<()> {
+    let arguments: Vec<String> = env::args(&rt)?.collect(rt.alloc())?;
+    for i in 1..arguments.len() {
+        print_case(&rt, argument(&arguments, i))?;
     }
+    Ok(())
 }

@@ -1,21 +1,18 @@
 // Writing to standard output.
 use jobs::refusal::Refusal;
-use libc::STDOUT_FILENO;
+use std::io;
+use streams::print;
 
-pub(crate) fn print(text: &[u8]) {
-    io::write_all(STDOUT_FILENO, text);
+pub(crate) fn print_number<R: Print>(rt: &R, value: u64) -> io::Result<()> {
+    rt.print(value)
 }
 
-pub(crate) fn print_number(value: u64) {
-    io::print_decimal(STDOUT_FILENO, value);
+pub(crate) fn print_column<R: Print>(rt: &R, value: u64) -> io::Result<()> {
+    print(rt, b",")?;
+    print_number(rt, value)
 }
 
-pub(crate) fn print_column(value: u64) {
-    print(b",");
-    print_number(value);
-}
-
-pub(crate) fn print_refused(refusal: Refusal) {
-    print(b"refused,");
-    print_number(refusal.number() as u64);
+pub(crate) fn print_refused<R: Print>(rt: &R, refusal: Refusal) -> io::Result<()> {
+    print(rt, b"refused,")?;
+    print_number(rt, refusal.number() as u64)
 }

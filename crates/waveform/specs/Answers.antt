@@ -1,5 +1,6 @@
 -- What the writer of a waveform answers. Document 02, R-1. Assumes nothing.
-use Rattle.laws.specs.Words.{ℕ, List, written}
+use Rattle.std.specs.Prelude.{ℕ, List}
+use Rattle.laws.specs.Words.{written}
 use Rattle.jobs.specs.{declared.job.Job.Job, Refusals.on_pass}
 use Rattle.machine.specs.Ticks.{machine_check}
 use Rattle.texts.specs.{declared.written.Written.Written, Answers.answer_to}

@@ -1,5 +1,5 @@
 // The changes after time 0: each span begins, and ends.
-ghost use Rattle.laws.specs.Words.{◌+◌, ◌*◌, ◌≤◌, length};
+ghost use Rattle.std.specs.Prelude.{◌+◌, ◌*◌, ◌≤◌, length};
 ghost use Rattle.laws.proofs.Clipped.{Put};
 ghost use Rattle.jobs.specs.{Limits.max_jobs, Jobs.jobs_of};
 ghost use Rattle.dumps.specs.{Dumps.lines_text, Dumps.rise_after, Dumps.span_lines, Dumps.change_lines, Claims.max_waveform};

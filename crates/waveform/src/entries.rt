@@ -1,5 +1,5 @@
 // The entries of a trace, four numbers each, as spans of jobs at their places.
-ghost use Rattle.laws.specs.Words.{◌≡◌, ◌+◌, ◌*◌, ◌≤◌, length};
+ghost use Rattle.std.specs.Prelude.{◌≡◌, ◌+◌, ◌*◌, ◌≤◌, length};
 ghost use Rattle.jobs.specs.{Limits.max_jobs, Jobs.jobs_of};
 ghost use Rattle.dumps.proofs.Entries.{span_at, spans_of, first_place};
 

@@ -1,5 +1,5 @@
 // The lines of a dump, each with its LF, at a place of a buffer, as far as it has room; each answers the place after its line.
-ghost use Rattle.laws.specs.Words.{◌≡◌, ◌+◌, ◌≤◌, cond, suc, [], ◌∷◌, length};
+ghost use Rattle.std.specs.Prelude.{◌≡◌, ◌+◌, ◌≤◌, cond, suc, [], ◌∷◌, length};
 ghost use Rattle.laws.proofs.Clipped.{Put};
 ghost use Rattle.jobs.specs.Limits.{max_jobs};
 ghost use Rattle.dumps.specs.{Identifiers.identifier_of, Dumps.lines_text, Dumps.name_of, Dumps.declares, Dumps.time_line, Dumps.value_line, Claims.max_waveform};

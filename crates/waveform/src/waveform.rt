@@ -1,5 +1,6 @@
 // The waveform of a run, into a lent buffer.
-ghost use Rattle.laws.specs.Words.{◌≡◌, written as the-written-Laws};
+ghost use Rattle.std.specs.Prelude.{◌≡◌};
+ghost use Rattle.laws.specs.Words.{written as laws_written};
 ghost use Rattle.jobs.specs.Jobs.{jobs_of};
 ghost use Rattle.texts.specs.Answers.{answer_to, answer_for, left_for};
 ghost use Rattle.dumps.specs.Dumps.{dump_of, most_waveform};
@@ -13,14 +14,14 @@ use jobs::set::JobSet;
 use machine::trace::{MAX_NUMBERS, Traced, trace};
 use texts::written::Written;
 
-// Enough for the waveform of every accepted set, by the theorem `waveform-fits`.
+// Enough for the waveform of every accepted set, by the theorem `waveform_fits`.
 pub const MAX_WAVEFORM: usize = 128 * JobSet::MAX_JOBS;
 
 // Writes the dump of the first entries; its length is what it takes in a buffer of no bytes, so that a short buffer stays as it was.
 fn write_dump(set: JobSet, numbers: &[u64], entries: usize, out: &mut [u8]) -> Written
     requires { Drawn (jobs_of set) numbers.now entries }
     ensures result_value { let text = dump_of (jobs_of set) (spans_of (jobs_of set) numbers.now entries) in result ≡ answer_to text out.old }
-    ensures out_after { let text = dump_of (jobs_of set) (spans_of (jobs_of set) numbers.now entries) in out.new ≡ the-written-Laws text out.old }
+    ensures out_after { let text = dump_of (jobs_of set) (spans_of (jobs_of set) numbers.now entries) in out.new ≡ laws_written text out.old }
 {
     let length = put_dump(set, numbers, entries, &mut out[..0]);
     if out.len() < length {

@@ -1,5 +1,6 @@
 // A line for each wire: its declaration, and its value at time 0.
-ghost use Rattle.laws.specs.Words.{◌+◌, ◌≤◌, eqb, length, tabulate};
+ghost use Rattle.std.specs.Prelude.{◌+◌, ◌≤◌, eqb, length};
+ghost use Rattle.laws.specs.Words.{tabulate};
 ghost use Rattle.laws.proofs.Clipped.{Put};
 ghost use Rattle.jobs.specs.{Limits.max_jobs, Jobs.jobs_of};
 ghost use Rattle.dumps.specs.{Dumps.lines_text, Dumps.wire_line, Dumps.value_line, Claims.max_waveform};

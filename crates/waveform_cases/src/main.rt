@@ -1,38 +1,35 @@
 // Prints for each case named as an argument its name, and what becomes of the waveform of the table kept under it, with all most times.
 //   wave/NAME   the waveform
 //   room/NAME   the answer of a buffer one byte short of it and of one just long enough, and the first byte that the buffer then holds
+#![tactic(auto)]
+
 mod edges;
 mod waves;
 
 use crate::edges::print_edge;
 use crate::waves::print_wave;
-use libc::STDOUT_FILENO;
+use std::rt::Files;
+use std::{env, io};
+use streams::{argument, print};
 
 // The first letter of the name tells what is asked.
-fn print_case(name: &[u8]) {
+fn print_case<R: Files + Print>(rt: &R, name: &[u8]) -> io::Result<()> {
     if name.len() == 0 {
-        return;
+        return Ok(());
     }
-    io::write_all(STDOUT_FILENO, name);
-    io::write_all(STDOUT_FILENO, b":\n");
+    print(rt, name)?;
+    print(rt, b":\n")?;
     if name[0] == b'w' {
-        print_wave(name);
+        print_wave(rt, name)
     } else {
-        print_edge(name);
+        print_edge(rt, name)
     }
 }
 
-fn print_argument(i: usize) {
-    let mut name = [0u8; 64];
-    let length = os::arg(i, &mut name);
-    print_case(&name[..length]);
-}
-
-fn main() {
-    let count = os::arg_count();
-    let mut i: usize = 1;
-    while i < count {
-        print_argument(i);
-        i += 1;
+fn main(rt: HostRuntime) -> io::Result<()> {
+    let arguments: Vec<String> = env::args(&rt)?.collect(rt.alloc())?;
+    for i in 1..arguments.len() {
+        print_case(&rt, argument(&arguments, i))?;
     }
+    Ok(())
 }

@@ -2,7 +2,9 @@
 use jobs::most::most_times;
 use jobs::set::JobSet;
 use kept_tables::set_of;
-use libc::STDOUT_FILENO;
+use std::io;
+use std::rt::Files;
+use streams::print_first;
 use texts::refused::ready_to_print;
 use texts::written::Written;
 use waveform::waveform::{MAX_WAVEFORM, write_waveform};
@@ -16,9 +18,9 @@ pub(crate) fn wave_of(set: JobSet, out: &mut [u8]) -> Written {
     write_waveform(set, &most[..set.count], out)
 }
 
-pub(crate) fn print_wave(name: &[u8]) {
+pub(crate) fn print_wave<R: Files + Print>(rt: &R, name: &[u8]) -> io::Result<()> {
     let mut out = [0u8; MAX_WAVEFORM];
-    let answer = wave_of(set_of(name), &mut out);
-    let printed = io::count(ready_to_print(answer, &mut out) as isize, &out);
-    io::write_all(STDOUT_FILENO, &out[..printed]);
+    let answer = wave_of(set_of(rt, name)?, &mut out);
+    let length = ready_to_print(answer, &mut out) as usize;
+    print_first(rt, &out, length)
 }

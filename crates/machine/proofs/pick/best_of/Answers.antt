@@ -1,0 +1,16 @@
+-- `best_of` meets its contract. The loop's invariant: the best is that of the first n jobs. Assumes nothing.
+use Rattle.machine.proofs.Picks.{best_step}
+use Rattle.machine.specs.Ticks.{best_up_to}
+use mathlib.Core.Path.{◌≡◌, refl, ◌∙◌}
+use native.Mathlib.Omega.{arith}
+use Rattle.machine.proofs.pick.best_of.Goals as goal
+
+pub loop-n-init : goal.loop-n-init
+unfolding best_up_to
+loop-n-init c = (omega arith, refl)
+
+pub loop-n-preserved : goal.loop-n-preserved
+loop-n-preserved c = (omega arith, c.consider-next.ensures ∙ best_step _ _ _ _ _ c.loop-n.invariant.1)
+
+pub returns : goal.returns
+returns c = let e : c.loop-n.n ≡ c.args.count = omega arith in rw e at c.loop-n.invariant.1

@@ -1,0 +1,33 @@
+-- `put_difference` leaves as much of its line as fits. Assumes nothing.
+use Rattle.decimal.specs.Digits.{decimal}
+use Rattle.laws.proofs.Clipped.{put_none, put-counted}
+use Rattle.laws.specs.Words.{ascii}
+use Rattle.recordings.proofs.Fits.{tick_length}
+use native.Mathlib.Omega.{arith}
+use Rattle.recordings.proofs.line.put_difference.Goals as goal
+
+pub overflow_add-end : goal.overflow_add-end
+overflow_add-end c =
+    omega (arith, c.requires, tick_length c.args.difference c.if-difference.true, c.put_bytes.ensures.0, c.put_number.ensures.0)
+
+pub overflow_add-result : goal.overflow_add-result
+overflow_add-result c =
+    omega (
+      arith,
+      c.requires,
+      tick_length c.args.difference c.if-difference.true,
+      c.put_bytes.ensures.0,
+      c.put_number.ensures.0,
+      c.put_bytes-then-difference.ensures.0,
+    )
+
+pub returns-then-difference : goal.returns-then-difference
+returns-then-difference c =
+    let word = put-counted (ascii "difference,") (put_none c.args.out.now c.args.at) c.put_bytes.ensures in
+    let tick = put-counted (decimal c.args.difference.tick) word c.put_number.ensures in
+    rw c.if-difference.true (put-counted (ascii "\r\n") tick c.put_bytes-then-difference.ensures)
+
+pub returns : goal.returns
+returns c =
+    let word = put-counted (ascii "difference,") (put_none c.args.out.now c.args.at) c.put_bytes.ensures in
+    rw c.if-difference.false (put-counted (ascii "none\r\n") word c.put_bytes-2.ensures)

@@ -1,0 +1,26 @@
+-- `write_waveform` answers `waveform_answer`, and leaves `waveform_left`. Assumes nothing.
+use Prim.Native.Nat.{ℕ, ◌*◌, ◌≤◌}
+use Rattle.jobs.specs.Jobs.{jobs_of}
+use Rattle.jobs.specs.Limits.{max_jobs}
+use Rattle.waveform.proofs.Answered.{entered, waveform_refused, waveform_written}
+use lib.ListN.{length, replicate, length-replicate}
+use mathlib.Core.Path.{◌∙◌}
+use native.Mathlib.Omega.{arith}
+use Rattle.waveform.proofs.waveform.write_waveform.Goals as goal
+
+-- the buffer lent to the machine has room for every trace
+room : 8 * max_jobs ≤ length (replicate {A = ℕ} (8 * max_jobs) 0)
+room = omega (arith, length-replicate {A = ℕ} (8 * max_jobs) 0)
+
+pub write_dump-requires : goal.write_dump-requires
+write_dump-requires c = (entered (jobs_of c.args.set) c.args.times.now (replicate (8 * max_jobs) 0) room c.trace.ensures _ _ c.in-Entries.is).drawn
+
+pub returns-in-Refused : goal.returns-in-Refused
+returns-in-Refused c =
+    let both = waveform_refused (jobs_of c.args.set) c.args.times.now (replicate (8 * max_jobs) 0) room c.trace.ensures _ c.in-Refused.is c.args.out.now in
+    record { value = both.0; out_after = both.1 }
+
+pub returns-in-Entries : goal.returns-in-Entries
+returns-in-Entries c =
+    let whole = waveform_written (entered (jobs_of c.args.set) c.args.times.now (replicate (8 * max_jobs) 0) room c.trace.ensures _ _ c.in-Entries.is) c.args.out.now in
+    record { value = c.write_dump.ensures.result_value ∙ whole.0; out_after = c.write_dump.ensures.out_after ∙ whole.1 }
