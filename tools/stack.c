@@ -1,11 +1,11 @@
-/* Runs each function on a stack of its own, filled beforehand, and checks that the table named takes less of it than the header says: 32 KB, 56 KB for
- * admission, where its last chain joins the others, and 64 KB for a comparison. */
+/* Runs each function on a stack of its own, filled beforehand, and checks that the table named takes less of it than the header says: 36 KB, 56 KB for
+ * admission, where its last chain joins the others, and for what delays its jobs, and 64 KB for a comparison. */
 #include "cudlomer.h"
 #include <stdio.h>
 #include <string.h>
 #include <ucontext.h>
 
-enum { STACK = 128 * 1024, LIMIT = 32 * 1024, ADMISSION_LIMIT = 56 * 1024, COMPARISON_LIMIT = 64 * 1024, FILL = 0xa5 };
+enum { STACK = 128 * 1024, LIMIT = 36 * 1024, ADMISSION_LIMIT = 56 * 1024, COMPARISON_LIMIT = 64 * 1024, FILL = 0xa5 };
 
 static uint8_t text[CUDLOMER_MAX_TEXT + 1], out[CUDLOMER_MAX_WAVEFORM], recording[CUDLOMER_MAX_TEXT], stack[STACK];
 static struct cudlomer_job jobs[CUDLOMER_MAX_JOBS], held[CUDLOMER_MAX_JOBS];
@@ -59,7 +59,7 @@ enum { FUNCTIONS = sizeof functions / sizeof functions[0] };
 
 static size_t limit(void (*call)(void))
 {
-    if (call == set_admit)
+    if (call == set_admit || call == set_blocks)
         return ADMISSION_LIMIT;
     return call == set_compare ? COMPARISON_LIMIT : LIMIT;
 }
