@@ -10,8 +10,8 @@
  *
  * Every function takes anything, and never reads or writes outside the ranges that it is handed. A pointer may be anything where its length is 0.
  * A range that is written must not overlap another. No function keeps a pointer, allocates memory or has state, so that any number of threads may
- * call them. Of the C library they use memcpy and memset. They take less than 32 KB of stack, admission less than 56 KB and a comparison less than
- * 64 KB, which is measured, not proved.
+ * call them. Of the C library they use memcpy and memset. They take less than 36 KB of stack, admission and what delays jobs less than 56 KB and a
+ * comparison less than 64 KB, which is measured, not proved.
  *
  * An answer below 0 is the number of a refusal, negated, and the first refusal in the order that a function names decides. A refused call has
  * written nothing. Where nothing is refused, what a buffer holds behind the last byte or number written stays.
