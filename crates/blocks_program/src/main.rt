@@ -3,7 +3,7 @@
 
 use blocks::text::{MAX_BLOCKS_TEXT, blocks_text};
 use std::io;
-use streams::{print_first, read_full};
+use streams::{front, print, read_full};
 use table::reading::MAX_TEXT;
 use texts::refused::ready_to_print;
 
@@ -14,5 +14,5 @@ fn main(rt: HostRuntime) -> io::Result<()> {
     let mut out = [0u8; MAX_BLOCKS_TEXT];
     let answer = blocks_text(&text[..length], &mut out);
     let length = ready_to_print(answer, &mut out) as usize;
-    print_first(&rt, &out, length)
+    print(&rt, front(&out, length))
 }

@@ -4,7 +4,7 @@
 use report::bounds::bounds_text;
 use report::room::MAX_BYTES;
 use std::io;
-use streams::{print_first, read_full};
+use streams::{front, print, read_full};
 use table::reading::MAX_TEXT;
 use texts::refused::ready_to_print;
 
@@ -15,5 +15,5 @@ fn main(rt: HostRuntime) -> io::Result<()> {
     let mut out = [0u8; MAX_BYTES];
     let answer = bounds_text(&text[..length], &mut out);
     let length = ready_to_print(answer, &mut out) as usize;
-    print_first(&rt, &out, length)
+    print(&rt, front(&out, length))
 }

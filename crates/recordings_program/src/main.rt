@@ -6,7 +6,7 @@ use recording::reading::Recording;
 use recordings::text::{MAX_COMPARED_TEXT, recordings_text};
 use std::rt::Files;
 use std::{env, io};
-use streams::{print_first, read_file};
+use streams::{front, print, read_file};
 use table::reading::MAX_TEXT;
 use texts::refused::ready_to_print;
 
@@ -26,7 +26,7 @@ fn print_comparison<R: Files + Print>(rt: &R, names: [&[u8]; 3]) -> io::Result<(
         &mut out,
     );
     let length = ready_to_print(answer, &mut out) as usize;
-    print_first(rt, &out, length)
+    print(rt, front(&out, length))
 }
 
 fn main(rt: HostRuntime) -> io::Result<()> {

@@ -1,7 +1,8 @@
 // Reading into a buffer and printing from one, as the programs do.
 #![tactic(auto)]
 
-ghost use Rattle.std.specs.Prelude.{◌≤◌, length, IfOk};
+ghost use Rattle.std.specs.Prelude.{◌≡◌, ◌≤◌, length, take, map, string_bytes, IfOk};
+ghost use Rattle.streams.specs.Names.{name_at};
 
 use std::io::{Read, Write};
 use std::rt::Files;
@@ -43,16 +44,20 @@ pub fn print<R: Print>(rt: &R, text: &[u8]) -> io::Result<()> {
     io::writer(rt).write_all(text)
 }
 
-// Prints the first bytes of the buffer, as many as that or all.
-pub fn print_first<R: Print>(rt: &R, buffer: &[u8], count: usize) -> io::Result<()> {
-    print(rt, &buffer[..count.min(buffer.len())])
+// The first bytes of the buffer, as many as that or all.
+pub fn front(buffer: &[u8], count: usize) -> &[u8]
+    ensures { result.now ≡ take count buffer.now }
+{
+    &buffer[..count.min(buffer.len())]
 }
 
 // The most bytes that the name of a case has.
 pub const MAX_NAME: usize = 64;
 
 // The bytes of the argument at a place; none beyond the last, nor where it is too long for the name of a case.
-pub fn argument(arguments: &[String], place: usize) -> &[u8] {
+pub fn argument(arguments: &[String], place: usize) -> &[u8]
+    ensures { result.now ≡ name_at (map string_bytes arguments.now) place }
+{
     match arguments.get(place) {
         Some(text) if text.len() <= MAX_NAME => text.as_bytes(),
         _ => b"",

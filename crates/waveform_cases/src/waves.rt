@@ -4,7 +4,7 @@ use jobs::set::JobSet;
 use kept_tables::set_of;
 use std::io;
 use std::rt::Files;
-use streams::print_first;
+use streams::{front, print};
 use texts::refused::ready_to_print;
 use texts::written::Written;
 use waveform::waveform::{MAX_WAVEFORM, write_waveform};
@@ -22,5 +22,5 @@ pub(crate) fn print_wave<R: Files + Print>(rt: &R, name: &[u8]) -> io::Result<()
     let mut out = [0u8; MAX_WAVEFORM];
     let answer = wave_of(set_of(rt, name)?, &mut out);
     let length = ready_to_print(answer, &mut out) as usize;
-    print_first(rt, &out, length)
+    print(rt, front(&out, length))
 }

@@ -2,7 +2,7 @@
 #![tactic(auto)]
 
 use std::io;
-use streams::{print_first, read_full};
+use streams::{front, print, read_full};
 use table::reading::MAX_TEXT;
 use texts::refused::ready_to_print;
 use waveform::waveform::{MAX_WAVEFORM, waveform_text};
@@ -14,5 +14,5 @@ fn main(rt: HostRuntime) -> io::Result<()> {
     let mut out = [0u8; MAX_WAVEFORM];
     let answer = waveform_text(&text[..length], &mut out);
     let length = ready_to_print(answer, &mut out) as usize;
-    print_first(&rt, &out, length)
+    print(&rt, front(&out, length))
 }
