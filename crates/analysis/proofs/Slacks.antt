@@ -14,7 +14,7 @@ use Rattle.laws.specs.Words.{tabulate, padded, number_at}
 use Rattle.laws.proofs.Lists.{get_d_padded}
 use Rattle.laws.proofs.Filling.{filled_none, filled_next}
 use Rattle.jobs.specs.declared.job.Job.{Job}
-use Rattle.jobs.specs.declared.refusal.Check.TheVariants.{Passed}
+use Rattle.std.specs.Prelude.{Ok}
 use Rattle.jobs.specs.Limits.{max_jobs, max_deadline}
 use Rattle.jobs.specs.Checks.{check_of}
 use Rattle.jobs.specs.Jobs.{job_at}
@@ -41,7 +41,7 @@ slacked_all js i out l h =
     h.slacks_are ∙ ap (λ (n : ℕ). padded max_jobs (pos 0) (tabulate 0 n (slack_at js))) e
 
 -- the job at a place, and the bounds as they are padded
-module _ (js : List Job) (passed : check_of js ≡ Passed) (bounds : List ℕ) (e : bounds ≡ padded max_jobs 0 (itr (table_of js)).bounds)
+module _ (js : List Job) (passed : check_of js ≡ Ok tt) (bounds : List ℕ) (e : bounds ≡ padded max_jobs 0 (itr (table_of js)).bounds)
     (i : ℕ) (l : i < length js) (job : Job) (here : job_at js i ≡ job) where
   bound_is : get_or bounds i 0 ≡ number_at (itr (table_of js)).bounds i
   bound_is = ap (λ (b : List ℕ). get_or b i 0) e ∙ get_d_padded max_jobs 0 (itr (table_of js)).bounds i

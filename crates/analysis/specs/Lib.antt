@@ -1,1 +1,2 @@
+pub mod Algorithms
 pub mod Answers

@@ -1,18 +1,10 @@
-// What follows from the bounds. Each answer says first whether the set was refused.
-use jobs::refusal::{Check, Refusal};
+// What follows from the bounds of an accepted set.
+use jobs::refusal::Refusal;
 use jobs::set::JobSet;
 
-// A slack for each job, below zero where the bound is later than the deadline, and 0 in the places beyond; on a refusal all are 0.
-#[derive(Clone, Copy)]
-pub struct Slacks {
-    pub check: Check,
-    pub slacks: [i64; JobSet::MAX_JOBS],
-}
-
-// The three bounds and the slack of each job, 0 in the places beyond, and the rounds of ITR; on a refusal all are 0.
+// The three bounds and the slack of each job, 0 in the places beyond, and the rounds of ITR. A slack is below zero where the bound is later than the deadline.
 #[derive(Clone, Copy)]
 pub struct Figures {
-    pub check: Check,
     pub ert: [u64; JobSet::MAX_JOBS],
     pub cja: [u64; JobSet::MAX_JOBS],
     pub itr: [u64; JobSet::MAX_JOBS],
@@ -20,17 +12,10 @@ pub struct Figures {
     pub slacks: [i64; JobSet::MAX_JOBS],
 }
 
-// Yes where each job's bound is at or before its deadline.
-#[derive(Clone, Copy)]
-pub enum Verdict {
-    Yes,
-    No,
-    Refused(Refusal),
-}
-
-// The verdict, and the joined set on yes, else the old set as it was.
+// The verdict, which is yes where each job's bound is at or before its deadline, and the joined set on yes, else the old set as it was.
+// The set stands beside the verdict and not in it, since a refusal hands the old set back too.
 #[derive(Clone, Copy)]
 pub struct Admission {
-    pub verdict: Verdict,
+    pub verdict: Result<bool, Refusal>,
     pub set: JobSet,
 }

@@ -7,37 +7,23 @@ use crate::slack::slacks_by;
 use completion::cja::cja_alone;
 use completion::ert::ert_alone;
 use completion::itr::itr_alone;
-use jobs::refusal::Check;
+use jobs::refusal::Refusal;
 use jobs::set::JobSet;
 
 // The three bounds, the rounds of ITR and the slacks of all jobs.
-pub fn figures(set: JobSet) -> Figures
+pub fn figures(set: JobSet) -> Result<Figures, Refusal>
     ensures { result ≡ figures_of set }
 {
-    let answer = itr_alone(set);
-    let check = answer.check;
-    if let Check::Refused(refusal) = check {
-        return Figures {
-            check: Check::Refused(refusal),
-            ert: [0u64; JobSet::MAX_JOBS],
-            cja: [0u64; JobSet::MAX_JOBS],
-            itr: [0u64; JobSet::MAX_JOBS],
-            rounds: 0,
-            slacks: [0i64; JobSet::MAX_JOBS],
-        };
-    }
-    let by_itr = answer.bounds;
-    let slacks = slacks_by(set, by_itr);
-    let ert_answer = ert_alone(set);
-    let by_ert = ert_answer.bounds;
-    let cja_answer = cja_alone(set);
-    let by_cja = cja_answer.bounds;
-    Figures {
-        check: Check::Passed,
-        ert: by_ert,
-        cja: by_cja,
-        itr: by_itr,
+    let answer = itr_alone(set)?;
+    let itr = answer.bounds;
+    let slacks = slacks_by(set, itr);
+    let ert = ert_alone(set)?;
+    let cja = cja_alone(set)?;
+    Ok(Figures {
+        ert,
+        cja,
+        itr,
         rounds: answer.rounds,
         slacks,
-    }
+    })
 }

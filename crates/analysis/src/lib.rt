@@ -2,6 +2,7 @@
 #![tactic(auto)]
 
 pub mod admission;
+pub mod algorithm;
 pub mod answer;
 pub mod bounds;
 pub mod figures;

@@ -7,7 +7,8 @@ use Rattle.laws.specs.Words.{padded}
 use Rattle.laws.proofs.Lists.{get_d_padded}
 use Rattle.jobs.specs.declared.job.Job.{Job}
 use Rattle.jobs.specs.declared.set.JobSet.{JobSet}
-use Rattle.jobs.specs.declared.refusal.Check.TheVariants.{Passed}
+use Rattle.std.specs.Prelude.{Ok, Err}
+use Rattle.jobs.specs.declared.refusal.Refusal.{Refusal}
 use Rattle.jobs.specs.Limits.{max_jobs}
 use Rattle.jobs.specs.Jobs.{job_at, jobs_of, chains_of}
 use Rattle.jobs.specs.Checks.{check_of}
@@ -27,14 +28,20 @@ rows-padded js delays zero = refl
 rows-padded js delays (suc n) =
     ap₂ ◌++◌ (rows-padded js delays n) (ap (job_rows (chains_of js) (job_at js n)) (get_d_padded max_jobs no_delay delays n))
 
-itr_delays : (set : JobSet) → check_of (jobs_of set) ≡ Passed → (itr_of set).delays ≡ padded max_jobs no_delay (delays_named (jobs_of set) (itr_delay (table_of (jobs_of set))))
+itr_delays : (set : JobSet) (answer : Itr) → Ok answer ≡ itr_of set → check_of (jobs_of set) ≡ Ok tt
+    → answer.delays ≡ padded max_jobs no_delay (delays_named (jobs_of set) (itr_delay (table_of (jobs_of set))))
 unfolding itr_of
-itr_delays set passed = rw passed refl
+itr_delays set answer e passed = let is = rw passed at e in cc
 
-pub named_text : (set : JobSet) (answer : Itr) → answer ≡ itr_of set → check_of (jobs_of set) ≡ Passed
+-- an accepted set has bounds
+pub itr_some : (set : JobSet) (refusal : Refusal) → Err refusal ≡ itr_of set → check_of (jobs_of set) ≡ Ok tt → ⊥
+unfolding itr_of
+itr_some set refusal e passed = let is = rw passed at e in cc
+
+pub named_text : (set : JobSet) (answer : Itr) → Ok answer ≡ itr_of set → check_of (jobs_of set) ≡ Ok tt
     → delays_text (jobs_of set) answer.delays ≡ blocks_text (jobs_of set)
 unfolding blocks_text
 named_text set answer is passed =
     let js = jobs_of set in
-    ap (delays_text js) (ap (λ (a : Itr). a.delays) is ∙ itr_delays set passed)
+    ap (delays_text js) (itr_delays set answer is passed)
     ∙ ap (λ rows. blocks_header ++ lines_text rows) (rows-padded js (delays_named js (itr_delay (table_of js))) (length js))

@@ -1,7 +1,7 @@
 -- The blocks text: whose jobs delay each job by ITR. Document 02, R-3. Assumes nothing.
-use Rattle.std.specs.Prelude.{ℕ, zero, suc, ◌-◌, ◌*◌, ◌≤◌, ◌≡◌, cond, List, [], ◌∷◌, ◌++◌, map, eqb, length, get_or, ℤ, pos}
+use Rattle.std.specs.Prelude.{ℕ, zero, suc, ◌-◌, ◌*◌, ◌≤◌, ◌≡◌, cond, List, [], ◌∷◌, ◌++◌, map, eqb, length, get_or, ℤ, pos, Ok}
 use Rattle.laws.specs.Words.{ascii}
-use Rattle.jobs.specs.declared.{job.Job.Job, refusal.Check.Check}
+use Rattle.jobs.specs.declared.{job.Job.Job}
 use Rattle.jobs.specs.{Limits.max_jobs, Limits.max_chains, Jobs.job_at, Jobs.chains_of, Checks.check_of}
 use Rattle.theory.specs.{Table.table_of, Delays.itr_delay}
 use Rattle.completion.specs.{declared.answer.Block.Block, declared.answer.Delay.Delay, Delays.no_block, Delays.no_delay, Delays.delays_named}
@@ -51,4 +51,4 @@ max_blocks_text = 24 * max_jobs * max_chains
 
 -- `blocks_fit`: such a buffer has room for the text of an accepted set, so that none is refused with 9.
 abbrev pub BlocksFit : Type 0
-BlocksFit = (js : List Job) → check_of js ≡ Check.Passed → length (blocks_text js) ≤ max_blocks_text
+BlocksFit = (js : List Job) → check_of js ≡ Ok tt → length (blocks_text js) ≤ max_blocks_text

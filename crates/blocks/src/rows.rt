@@ -29,10 +29,8 @@ fn put_job(job: Job, delay: Delay, chains: usize, out: &mut [u8], at: usize) -> 
     ensures { Put out.old at (lines_text (job_rows chains job delay)) out.new result }
 {
     let mut next = at;
-    let mut n: usize = 0;
-    while n < chains {
+    for n in 0..chains {
         next = put_chain(job, delay, n, out, next);
-        n += 1;
     }
     next
 }
@@ -51,10 +49,8 @@ pub(crate) fn put_rows(
 {
     let count = set.count;
     let mut next = at;
-    let mut n: usize = 0;
-    while n < count {
+    for n in 0..count {
         next = put_job(set.jobs[n], delays[n], chains, out, next);
-        n += 1;
     }
     next
 }

@@ -10,10 +10,10 @@ use crate::rows::put_rows;
 use completion::answer::Delay;
 use completion::named::itr;
 use jobs::last::last_of;
-use jobs::refusal::{Check, Refusal};
+use jobs::refusal::Refusal;
 use jobs::set::JobSet;
 use texts::bytes::put_bytes;
-use texts::written::Written;
+use texts::whole::write_whole;
 
 // Enough for the text of every accepted set, by the theorem `blocks_fit`.
 pub const MAX_BLOCKS_TEXT: usize = 24 * JobSet::MAX_JOBS * Delay::CHAINS;
@@ -29,33 +29,28 @@ fn put_text(set: JobSet, delays: [Delay; JobSet::MAX_JOBS], out: &mut [u8]) -> u
     put_rows(set, delays, last.chain as usize, out, rows)
 }
 
-// Writes the text; its length is what it takes in a buffer of no bytes, so that a short buffer stays as it was.
-fn write_blocks(set: JobSet, delays: [Delay; JobSet::MAX_JOBS], out: &mut [u8]) -> Written
+// Writes the text.
+#[tactic(auto, using(laws::proofs::Clipped::put_whole))]
+fn write_blocks(
+    set: JobSet,
+    delays: [Delay; JobSet::MAX_JOBS],
+    out: &mut [u8],
+) -> Result<u32, Refusal>
     requires count_le_max_jobs { (set.count ≤ max_jobs) × (chains_of (jobs_of set) ≤ max_chains) }
     requires delays_len_bound { length (delays_text (jobs_of set) delays) ≤ max_blocks_text }
     ensures value { result ≡ answer_to (delays_text (jobs_of set) delays) out.old }
     ensures out_after { out.new ≡ laws_written (delays_text (jobs_of set) delays) out.old }
 {
-    let length = put_text(set, delays, &mut out[..0]);
-    if out.len() < length {
-        return Written::Refused(Refusal::ShortBuffer);
-    }
-    put_text(set, delays, out);
-    Written::Bytes(length as u32)
+    write_whole(|out: &mut [u8]| put_text(set, delays, out), out)
 }
 
 // From the text of a table to the text of its blocks: the refusals of reading first, then 9.
-pub fn blocks_text(text: &[u8], out: &mut [u8]) -> Written
+pub fn blocks_text(text: &[u8], out: &mut [u8]) -> Result<u32, Refusal>
     ensures value { result ≡ answer_for blocks_text text.now out.old }
     ensures out_after { out.new ≡ left_for blocks_text text.now out.old }
 {
-    let reading = table::reading::read(text);
-    let check = reading.check;
-    if let Check::Refused(refusal) = check {
-        return Written::Refused(refusal);
-    }
-    let set = reading.set;
-    let named = itr(set);
+    let set = table::reading::read(text)?;
+    let named = itr(set)?;
     let delays = named.delays;
     write_blocks(set, delays, out)
 }

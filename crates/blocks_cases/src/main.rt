@@ -2,7 +2,6 @@
 #![tactic(auto)]
 
 mod blocks;
-mod print;
 
 use crate::blocks::print_by;
 use kept_tables::set_of;
@@ -12,13 +11,12 @@ use streams::{argument, print};
 
 fn print_case<R: Files + Print>(rt: &R, name: &[u8]) -> io::Result<()> {
     print(rt, name)?;
-    print(rt, b":")?;
+    print!(rt; ":")?;
     let set = set_of(rt, name)?;
-    print_by(rt, set, 1)?;
-    print_by(rt, set, 2)?;
-    print_by(rt, set, 3)?;
-    print_by(rt, set, 4)?;
-    print(rt, b"\n")
+    for algorithm in 1..=4 {
+        print_by(rt, set, algorithm)?;
+    }
+    print!(rt; "\n")
 }
 
 fn main(rt: HostRuntime) -> io::Result<()> {

@@ -6,7 +6,6 @@
 
 mod admission;
 mod bounds;
-mod print;
 mod sets;
 
 use crate::admission::print_admission;
@@ -16,27 +15,20 @@ use std::rt::Files;
 use std::{env, io};
 use streams::{argument, print};
 
-// The first letter of the name tells what is asked.
+// The first letter of the name tells what is asked; a chain that asks to join has no line of its own.
 fn print_case<R: Files + Print>(rt: &R, name: &[u8], next: &[u8]) -> io::Result<()> {
-    if name.len() == 0 {
-        return Ok(());
-    }
-    let kind = name[0];
-    if kind == b'w' {
+    if name.is_empty() || name.starts_with(b"w") {
         return Ok(());
     }
     print(rt, name)?;
-    print(rt, b":")?;
-    if kind == b'r' {
-        print_reading(rt, name)?;
+    print!(rt; ":")?;
+    match name[0] {
+        b'r' => print_reading(rt, name)?,
+        b'b' => print_bounds(rt, name)?,
+        b'a' => print_admission(rt, name, next)?,
+        _ => {}
     }
-    if kind == b'b' {
-        print_bounds(rt, name)?;
-    }
-    if kind == b'a' {
-        print_admission(rt, name, next)?;
-    }
-    print(rt, b"\n")
+    print!(rt; "\n")
 }
 
 fn main(rt: HostRuntime) -> io::Result<()> {

@@ -1,13 +1,13 @@
--- The columns of an accepted set, lent: a table in its limits, with the set's own bounds.
---   Lends   what holds of it
+-- The table of an accepted set, as the code has it: it is within its limits, with the set's own bounds.
+--   Lends   what holds of its bounds
 -- Assumes nothing.
-use Prim.Native.Nat.{ℕ, suc}
+use Prim.Native.Nat.{suc}
 use mathlib.Core.Path.{◌≡◌, sym, ◌∙◌}
 use mathlib.Core.List.{List}
 use native.Mathlib.Omega.{arith}
 use Rattle.jobs.specs.declared.job.Job.{Job}
 use Rattle.jobs.specs.declared.set.JobSet.{JobSet}
-use Rattle.jobs.specs.declared.refusal.Check.TheVariants.{Passed}
+use Rattle.std.specs.Prelude.{Ok}
 use Rattle.jobs.specs.Jobs.{jobs_of}
 use Rattle.jobs.specs.Checks.{check_of}
 use Rattle.jobs.proofs.Accepted.{Accepted, accepted}
@@ -17,14 +17,13 @@ use Rattle.theory.proofs.Releases.{earliest_latest}
 use Rattle.theory.proofs.RisingBounds.{rises_upwards, releases_rise}
 use Rattle.theory.proofs.AcceptedSets.{accepted_ordered, accepted_most, accepted_latest}
 use Rattle.theory.proofs.Agreement.{Agree, agree_same}
-use Rattle.theory.proofs.Columns.{lent, Fit}
+use Rattle.theory.proofs.Columns.{Fit}
 use Rattle.theory.proofs.Unread.{bare, ert-bare, cja-bare, itr-bare}
 
-pub record Lends (set : JobSet) (columns : List (List ℕ)) : Type 0 where
-  pub fit : Fit (lent set.count columns)
-  pub by_ert : ert (lent set.count columns) ≡ ert (table_of (jobs_of set))
-  pub by_cja : cja (lent set.count columns) ≡ cja (table_of (jobs_of set))
-  pub by_itr : itr (lent set.count columns) ≡ itr (table_of (jobs_of set))
+pub record Lends (set : JobSet) (s : Table) : Type 0 where
+  pub by_ert : ert s ≡ ert (table_of (jobs_of set))
+  pub by_cja : cja s ≡ cja (table_of (jobs_of set))
+  pub by_itr : itr s ≡ itr (table_of (jobs_of set))
 
 agree_fit : {s t : Table} → Agree s (bare t) → Fit t → Fit s
 agree_fit {t = t} a fit =
@@ -50,12 +49,14 @@ accepted_fit js ok =
       rises = rises_upwards (table_of js) (table_of js).earliest (table_of js).least (releases_rise js);
     }
 
-pub lends : (set : JobSet) → check_of (jobs_of set) ≡ Passed → (columns : List (List ℕ)) → Agree (lent set.count columns) (bare (table_of (jobs_of set))) → Lends set columns
-lends set passed columns agree =
+pub lent_fit : (set : JobSet) → check_of (jobs_of set) ≡ Ok tt → (s : Table) → Agree s (bare (table_of (jobs_of set))) → Fit s
+lent_fit set passed s agree = agree_fit agree (accepted_fit (jobs_of set) (accepted (jobs_of set) passed))
+
+pub lends : (set : JobSet) → check_of (jobs_of set) ≡ Ok tt → (s : Table) → Agree s (bare (table_of (jobs_of set))) → Lends set s
+lends set passed s agree =
     let ok = accepted (jobs_of set) passed in
     let same = agree_same agree (accepted_ordered (jobs_of set) ok) in
     record {
-      fit = agree_fit agree (accepted_fit (jobs_of set) ok);
       by_ert = same.by_ert ∙ ert-bare (table_of (jobs_of set));
       by_cja = same.by_cja ∙ cja-bare (table_of (jobs_of set));
       by_itr = same.by_itr ∙ itr-bare (table_of (jobs_of set));

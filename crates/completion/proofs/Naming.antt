@@ -21,7 +21,7 @@ use Rattle.theory.specs.Bounds.{cja_with, overlap, round, itr}
 use Rattle.theory.specs.Delays.{Block as TheoryBlock, no_block as theory_no_block, Delay as TheoryDelay, delay_at, ert_delay, cja_delay, itr_delay}
 use Rattle.theory.proofs.Rules.{always, at_cja}
 use Rattle.theory.proofs.Settling.{itr_fixed}
-use Rattle.theory.proofs.Columns.{lent, column, Fit}
+use Rattle.theory.proofs.Columns.{column, Fit}
 use Rattle.theory.proofs.Pairs.{round_at}
 use Rattle.theory.proofs.Late.{late, late-overlap}
 use Rattle.theory.proofs.Agreement.{Agree}
@@ -83,30 +83,29 @@ pub settled_best : (t : Table) (bound : List ℕ) → bound ≡ padded max_jobs 
 settled_best t bound e = rw e (ap (padded max_jobs 0) (sym (round-padded t (itr t).bounds ∙ itr_fixed t)))
 
 -- ---- of an accepted set
-module _ (set : JobSet) (columns : List (List ℕ)) (agree : Agree (lent set.count columns) (bare (table_of (jobs_of set))))
-    (numbers : List ℕ) (are : numbers ≡ column set.count (number_in (jobs_of set))) where
-  abbrev s : Table
-  s = lent set.count columns
-
+module _ (set : JobSet) (s : Table) (agree : Agree s (bare (table_of (jobs_of set)))) (numbers : List ℕ) (are : numbers ≡ column set.count (number_in (jobs_of set))) where
   abbrev js : List Job
   js = jobs_of set
 
   abbrev listed : (ℕ → TheoryDelay) → List Delay
-  listed delay = tabulate 0 set.count (λ j. delay_named (number_at numbers) (delay j))
+  listed delay = tabulate 0 s.count (λ j. delay_named (number_at numbers) (delay j))
+
+  counts : s.count ≡ set.count
+  counts = agree.count ∙ length_jobs set
 
   figures : SameFigures s (table_of js)
   figures = agree_figures agree
 
-  number_at_lem : (i : ℕ) → i < set.count → number_at numbers i ≡ number_in js i
-  number_at_lem i l = ap (λ (l : List ℕ). get_or l i 0) are ∙ filled_at max_jobs 0 (number_in js) set.count i l
+  number_at_lem : (i : ℕ) → i < s.count → number_at numbers i ≡ number_in js i
+  number_at_lem i l = ap (λ (l : List ℕ). get_or l i 0) are ∙ filled_at max_jobs 0 (number_in js) set.count i (omega (arith, counts))
 
-  all_same : (d e : ℕ → TheoryDelay) → ((j : ℕ) → j < set.count → Within set.count (d j)) → ((j : ℕ) → j < set.count → d j ≡ e j) → listed d ≡ delays_named js e
+  all_same : (d e : ℕ → TheoryDelay) → ((j : ℕ) → j < s.count → Within s.count (d j)) → ((j : ℕ) → j < s.count → d j ≡ e j) → listed d ≡ delays_named js e
   unfolding delays_named
   all_same d e within same =
-      tabulate_ext 0 set.count _ _ (λ j a l.
-      let jl : j < set.count = omega arith in
-      named_same (number_at numbers) (number_in js) set.count number_at_lem (d j) (within j jl) ∙ ap (delay_named (number_in js)) (same j jl))
-      ∙ ap (λ (n : ℕ). tabulate 0 n (λ j. delay_named (number_in js) (e j))) (sym (length_jobs set))
+      tabulate_ext 0 s.count _ _ (λ j a l.
+      let jl : j < s.count = omega arith in
+      named_same (number_at numbers) (number_in js) s.count number_at_lem (d j) (within j jl) ∙ ap (delay_named (number_in js)) (same j jl))
+      ∙ ap (λ (n : ℕ). tabulate 0 n (λ j. delay_named (number_in js) (e j))) agree.count
 
   pub all_ert : listed (ert_delay s) ≡ delays_named js (ert_delay (table_of js))
   all_ert = all_same (ert_delay s) (ert_delay (table_of js)) (λ j l. ert-within s j l) (λ j l. ert_delay-same figures j l)
@@ -117,7 +116,7 @@ module _ (set : JobSet) (columns : List (List ℕ)) (agree : Agree (lent set.cou
       all_same (delay_at s (overlap s late)) _ (λ j l. pair_delay_within s j l (overlap s late))
       (λ j l. delay_same figures (overlap s late) always j l (λ k u kj ul. late-overlap s fit k j u (omega arith) l ul))
 
-  overlap-same : (bounds : List ℕ) → bounds ≡ padded max_jobs 0 (itr (table_of js)).bounds → (j k u : ℕ) → k < set.count → u < set.count
+  overlap-same : (bounds : List ℕ) → bounds ≡ padded max_jobs 0 (itr (table_of js)).bounds → (j k u : ℕ) → k < s.count → u < s.count
       → overlap s bounds k j u ≡ overlap (table_of js) (itr (table_of js)).bounds k j u
   unfolding overlap
   overlap-same bounds e j k u kl ul =

@@ -1,5 +1,5 @@
 -- ITR round by round: the bounds so far, and that no round so far has changed none; the first that changes none is the definition's.
---   itr_passed   ITR's answer as that of an accepted set
+--   itr_passed   ITR's answer padded as that of an accepted set
 --   Rounding    what the loop over the rounds holds after n of them
 -- Assumes a table in its limits.
 use Prim.Native.Nat.{ℕ, zero, suc, ◌+◌, ◌*◌, ◌-◌, ◌≤◌, ◌<◌}
@@ -16,7 +16,6 @@ use Rattle.laws.proofs.Tests.{by_last, by_order, both_ways}
 use Rattle.laws.proofs.Same.{same_at, same_refl}
 use Rattle.laws.proofs.Lists.{get_d_padded}
 use Rattle.jobs.specs.Limits.{max_jobs}
-use Rattle.jobs.specs.declared.refusal.Check.TheVariants.{Passed}
 use Rattle.theory.specs.Table.{Table}
 use Rattle.theory.specs.Bounds.{cja_with, overlap, round, after, Answer, round_limit, itr}
 use Rattle.theory.specs.Claims.{Repeats, Settled}
@@ -47,7 +46,7 @@ unfolding round
 round-padded t b = ap (cja_with t) (overlap-padded t b)
 
 abbrev pub itr_passed : Answer → ItrAlone
-itr_passed answer = record { check = Passed; bounds = padded max_jobs 0 answer.bounds; rounds = answer.rounds }
+itr_passed answer = record { bounds = padded max_jobs 0 answer.bounds; rounds = answer.rounds }
 
 pub record Rounding (t : Table) (bounds : List ℕ) (n : ℕ) : Type 0 where
   pub bounds_are : bounds ≡ padded max_jobs 0 (after t n)
@@ -106,7 +105,7 @@ module _ (t : Table) where
             moved = λ m l r. by_last m (suc n) l (λ q. moves s (subst (Repeats t) q r)) (λ ml. h.moved m ml r);
           })
 
-      pub rounding_last : same_up_to t.count next bounds ≡ true → ◌≡◌ {A = ItrAlone} (record { check = Passed; bounds = next; rounds = n + 1 }) (itr_passed (itr t))
+      pub rounding_last : same_up_to t.count next bounds ≡ true → ◌≡◌ {A = ItrAlone} (record { bounds = next; rounds = n + 1 }) (itr_passed (itr t))
       rounding_last s =
           let answer : Answer = record { bounds = after t (suc n); rounds = suc n } in
           let settled : Settled t answer = record { made = refl; last = repeats s; first = λ m l r. h.moved m l r } in

@@ -1,8 +1,8 @@
 -- What is proved of the answers for every accepted set: a planner with the table and an answer adds up each bound by hand, as the names in it say.
 -- proofs/Claims.antt has the proof of all. Document 02, R-3. Assumes nothing.
-use Rattle.std.specs.Prelude.{ℕ, suc, ◌+◌, ◌<◌, ◌≡◌, Bool, true, cond, ◌&&◌, List, leb, eqb, length, get_or}
+use Rattle.std.specs.Prelude.{ℕ, suc, ◌+◌, ◌<◌, ◌≡◌, Bool, true, cond, ◌&&◌, List, leb, eqb, length, get_or, IsOkAnd, Ok}
 use Rattle.laws.specs.Words.{number_at, sum_below}
-use Rattle.jobs.specs.declared.{job.Job.Job, set.JobSet.JobSet, refusal.Check.Check}
+use Rattle.jobs.specs.declared.{job.Job.Job, set.JobSet.JobSet}
 use Rattle.jobs.specs.{Limits.max_chains, Jobs.job_at, Jobs.place_in, Jobs.jobs_of, Checks.check_of}
 use Rattle.theory.specs.{Table.table_of, Bounds.demand, Bounds.overlap, Delays.counts, Delays.ert_begin}
 use Rattle.completion.specs.declared.{answer.Block.Block, answer.Delay.Delay}
@@ -33,13 +33,13 @@ RuleAddsUp js delays bounds =
     → let t = table_of js in
     ert_begin t bounds j + t.most j + named_sums js t.most (get_or delays j no_delay).blocks ≡ number_at bounds j
 
--- One field for each algorithm.
+-- One field for each algorithm: it has an answer, and in that the bounds add up.
 pub record Claims (set : JobSet) : Type 0 where
-  pub by_ert : RuleAddsUp (jobs_of set) (ert_of set).delays (ert_of set).bounds
-  pub by_cja : PairAddsUp (jobs_of set) (λ k j u. true) (cja_of set).delays (cja_of set).bounds
+  pub by_ert : IsOkAnd (ert_of set) (λ answer. RuleAddsUp (jobs_of set) answer.delays answer.bounds)
+  pub by_cja : IsOkAnd (cja_of set) (λ answer. PairAddsUp (jobs_of set) (λ k j u. true) answer.delays answer.bounds)
   -- In the last round, whose previous bounds are the bounds.
-  pub by_itr : PairAddsUp (jobs_of set) (overlap (table_of (jobs_of set)) (itr_of set).bounds) (itr_of set).delays (itr_of set).bounds
+  pub by_itr : IsOkAnd (itr_of set) (λ answer. PairAddsUp (jobs_of set) (overlap (table_of (jobs_of set)) answer.bounds) answer.delays answer.bounds)
 
 -- The claims hold of every accepted set.
 abbrev pub EveryAccepted : Type 0
-EveryAccepted = (set : JobSet) → check_of (jobs_of set) ≡ Check.Passed → Claims set
+EveryAccepted = (set : JobSet) → check_of (jobs_of set) ≡ Ok tt → Claims set

@@ -1,8 +1,7 @@
-// The bounds of a set and what they come from. Each answer says first whether the set was refused.
+// The bounds of an accepted set and what they come from.
 ghost use Rattle.std.specs.Prelude.{◌≡◌};
-ghost use Rattle.completion.specs.{Delays.no_block, Delays.no_delay, Answers.refused_bounds};
+ghost use Rattle.completion.specs.{Delays.no_block, Delays.no_delay};
 
-use jobs::refusal::{Check, Refusal};
 use jobs::set::JobSet;
 
 // The jobs of one chain that delay a job, by the numbers of the first and the last of them; 0 and 0 where there is none.
@@ -41,10 +40,9 @@ impl Delay {
     }
 }
 
-// A bound for each job and what it comes from, 0 in the places beyond; on a refusal all are 0.
+// A bound for each job and what it comes from, 0 in the places beyond.
 #[derive(Clone, Copy)]
 pub struct Bounds {
-    pub check: Check,
     pub bounds: [u64; JobSet::MAX_JOBS],
     pub delays: [Delay; JobSet::MAX_JOBS],
 }
@@ -52,40 +50,19 @@ pub struct Bounds {
 impl Bounds {
     // No bound of an accepted set reaches this.
     pub const LIMIT: u64 = 10000000000;
-
-    // The answer where there are no bounds.
-    pub fn refused(refusal: Refusal) -> Bounds
-        ensures { result ≡ refused_bounds refusal }
-    {
-        let none = Delay::none();
-        Bounds {
-            check: Check::Refused(refusal),
-            bounds: [0u64; JobSet::MAX_JOBS],
-            delays: [none; JobSet::MAX_JOBS],
-        }
-    }
 }
 
 // The same, and the rounds with the last one.
 #[derive(Clone, Copy)]
 pub struct Itr {
-    pub check: Check,
     pub bounds: [u64; JobSet::MAX_JOBS],
     pub rounds: u64,
     pub delays: [Delay; JobSet::MAX_JOBS],
 }
 
-// The bounds alone, for whoever prints no names.
-#[derive(Clone, Copy)]
-pub struct BoundsAlone {
-    pub check: Check,
-    pub bounds: [u64; JobSet::MAX_JOBS],
-}
-
-// Bounds and rounds alone.
+// Bounds and rounds alone, for whoever prints no names.
 #[derive(Clone, Copy)]
 pub struct ItrAlone {
-    pub check: Check,
     pub bounds: [u64; JobSet::MAX_JOBS],
     pub rounds: u64,
 }

@@ -1,12 +1,11 @@
 // The first pair that gives a bound.
 ghost use Rattle.std.specs.Prelude.{◌≡◌, ◌≤◌, ◌<◌};
-ghost use Rattle.jobs.specs.Limits.{max_jobs};
 ghost use Rattle.theory.specs.{Bounds.lowest, Bounds.overlap, Delays.first_pair};
-ghost use Rattle.theory.proofs.{Columns.lent, Columns.Fit, Endings.Ended, Pairs.round_at, FirstPairs.earlier as theory_earlier};
+ghost use Rattle.theory.proofs.{Columns.lent, Pairs.round_at, FirstPairs.earlier as theory_earlier};
 
-use crate::columns::{CHAIN, Columns, EARLIEST, LATEST, MOST, URGENCY, figure};
 use crate::interference::interference;
-use crate::number::lower;
+use crate::table::Table;
+use crate::target::Target;
 use jobs::set::JobSet;
 
 // The first k so far, after the pair of k: k where its sum is the bound.
@@ -20,53 +19,46 @@ fn earlier(value: u64, best: u64, k: usize, first: usize) -> usize
 }
 
 // The first job of the first pair whose sum is the largest for j, which is `best`.
-pub(crate) fn first_pair<'a, 'b>(
-    count: usize,
-    columns: &'a Columns,
-    bound: &'b [u64; JobSet::MAX_JOBS],
+pub(crate) fn first_pair(
+    table: &Table,
+    bound: &[u64; JobSet::MAX_JOBS],
     j: usize,
     best: u64,
 ) -> usize
-    requires { Fit (lent count columns.now) × Ended count columns.now × (j < count) × (best ≡ round_at (lent count columns.now) bound.now j) }
-    ensures { let t = lent count columns.now in result ≡ first_pair t (overlap t bound.now) j }
+    requires { (j < table.now.count) × (best ≡ round_at (lent table.now.count table.now.columns) bound.now j) }
+    ensures { let t = lent table.now.count table.now.columns in result ≡ first_pair t (overlap t bound.now) j }
 {
-    let own = figure(columns, CHAIN, j);
+    let own = table.chain(j);
     let to = bound[j];
     let mut sum: u64 = 0;
-    let mut low = figure(columns, URGENCY, j);
+    let mut low = table.urgency(j);
     let mut first = j + 1;
-    let mut k = j + 1;
-    while 0 < k {
-        k -= 1;
-        if figure(columns, CHAIN, k) != own {
+    for k in (0..j + 1).rev() {
+        if table.chain(k) != own {
             return first;
         }
-        sum += figure(columns, MOST, k);
-        low = lower(low, figure(columns, URGENCY, k));
-        let delay = interference(
-            count,
-            columns,
-            bound,
-            own,
-            low,
-            figure(columns, EARLIEST, k),
+        sum += table.most(k);
+        low = low.min(table.urgency(k));
+        let target = Target {
+            chain: own,
+            urgency: low,
+            from: table.earliest(k),
             to,
-        );
-        first = earlier(figure(columns, LATEST, k) + sum + delay, best, k, first);
+        };
+        let delay = interference(table, bound, target);
+        first = earlier(table.latest(k) + sum + delay, best, k, first);
     }
     first
 }
 
 // The lowest urgency of the jobs from k to j.
-pub(crate) fn lowest_from<'a>(count: usize, columns: &'a Columns, k: usize, j: usize) -> u64
-    requires { (k ≤ j) × (j < count) × (count ≤ max_jobs) }
-    ensures { result ≡ lowest (lent count columns.now) k j }
+pub(crate) fn lowest_from(table: &Table, k: usize, j: usize) -> u64
+    requires { (k ≤ j) × (j < table.now.count) }
+    ensures { result ≡ lowest (lent table.now.count table.now.columns) k j }
 {
-    let mut low = figure(columns, URGENCY, k);
-    let mut i = k;
-    while i < j {
-        i += 1;
-        low = lower(low, figure(columns, URGENCY, i));
+    let mut low = table.urgency(k);
+    for i in k + 1..j + 1 {
+        low = low.min(table.urgency(i));
     }
     low
 }

@@ -1,72 +1,60 @@
 // The largest sum over the pairs that end with one job.
 ghost use Rattle.std.specs.Prelude.{◌≡◌, ◌<◌};
-ghost use Rattle.theory.proofs.{Columns.lent, Columns.Fit, Endings.Ended, Pairs.round_at, PairDelays.Pairable, SweptPairs.Ready};
+ghost use Rattle.theory.proofs.{Columns.lent, Pairs.round_at, PairDelays.Pairable, SweptPairs.Ready};
 
-use crate::columns::{CHAIN, Columns, EARLIEST, LATEST, MOST, URGENCY, figure};
+use crate::carried::Carried;
 use crate::interference::interference;
-use crate::number::{larger, lower};
 use crate::sweep::sweep_chains;
+use crate::table::Table;
+use crate::target::Target;
 use jobs::set::JobSet;
 
 // The pairs (k, j) with k from j down to the chain's first job, where a job counts if its span by `bound` overlaps the pair's, by a scan for each.
-pub(crate) fn largest_scanned<'a, 'b>(
-    count: usize,
-    columns: &'a Columns,
-    bound: &'b [u64; JobSet::MAX_JOBS],
-    j: usize,
-) -> u64
-    requires { Fit (lent count columns.now) × Ended count columns.now × (j < count) }
-    ensures { result ≡ round_at (lent count columns.now) bound.now j }
+pub(crate) fn largest_scanned(table: &Table, bound: &[u64; JobSet::MAX_JOBS], j: usize) -> u64
+    requires { j < table.now.count }
+    ensures { result ≡ round_at (lent table.now.count table.now.columns) bound.now j }
 {
-    let own = figure(columns, CHAIN, j);
+    let own = table.chain(j);
     let to = bound[j];
     let mut sum: u64 = 0;
-    let mut low = figure(columns, URGENCY, j);
+    let mut low = table.urgency(j);
     let mut best: u64 = 0;
-    let mut k = j + 1;
-    while 0 < k {
-        k -= 1;
-        if figure(columns, CHAIN, k) != own {
+    for k in (0..j + 1).rev() {
+        if table.chain(k) != own {
             return best;
         }
-        sum += figure(columns, MOST, k);
-        low = lower(low, figure(columns, URGENCY, k));
-        let delay = interference(
-            count,
-            columns,
-            bound,
-            own,
-            low,
-            figure(columns, EARLIEST, k),
+        sum += table.most(k);
+        low = low.min(table.urgency(k));
+        let target = Target {
+            chain: own,
+            urgency: low,
+            from: table.earliest(k),
             to,
-        );
-        best = larger(best, figure(columns, LATEST, k) + sum + delay);
+        };
+        let delay = interference(table, bound, target);
+        best = best.max(table.latest(k) + sum + delay);
     }
     best
 }
 
-// The same by a sweep over the other chains, where `own` is the first place of j's chain; what it is lent it leaves as it has to be for the next job.
-pub(crate) fn largest_swept<'a, 'b, 'c, 'd>(
-    count: usize,
-    columns: &'a Columns,
-    bound: &'b [u64; JobSet::MAX_JOBS],
+// The same by a sweep over the other chains, where `own` is the first place of j's chain; what it carries it leaves as it has to be for the next job.
+pub(crate) fn largest_swept(
+    table: &Table,
+    bound: &[u64; JobSet::MAX_JOBS],
     own: usize,
     j: usize,
-    released: &'c mut [usize; JobSet::MAX_JOBS],
-    delay: &'d mut [u64; JobSet::MAX_JOBS],
+    carried: &mut Carried,
 ) -> u64
-    requires { Pairable count columns.now bound.now own j × Ready count columns.now released.old delay.old }
-    ensures { (result ≡ round_at (lent count columns.now) bound.now j) × Ready count columns.now released.new delay.new }
+    requires { let t = table.now in Pairable t.count t.columns bound.now own j × Ready t.count t.columns carried.old.released carried.old.delay }
+    ensures { let t = table.now in (result ≡ round_at (lent t.count t.columns) bound.now j) × Ready t.count t.columns carried.new.released carried.new.delay }
 {
-    sweep_chains(count, columns, bound, own, j, released, delay);
+    sweep_chains(table, bound, own, j, carried);
     let mut sum: u64 = 0;
     let mut best: u64 = 0;
-    let mut k = j + 1;
-    while own < k {
-        k -= 1;
-        sum += figure(columns, MOST, k);
-        best = larger(best, figure(columns, LATEST, k) + sum + delay[k]);
-        delay[k] = 0;
+    for k in (own..j + 1).rev() {
+        sum += table.most(k);
+        best = best.max(table.latest(k) + sum + carried.delay[k]);
+        carried.delay[k] = 0;
     }
     best
 }

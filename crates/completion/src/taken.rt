@@ -3,12 +3,13 @@ ghost use Rattle.std.specs.Prelude.{◌≡◌, ◌+◌, ◌-◌, ◌^◌, ◌≤
 ghost use Rattle.laws.specs.Words.{number_at};
 ghost use Rattle.jobs.specs.Limits.{max_jobs};
 ghost use Rattle.theory.specs.Delays.{taken_block};
-ghost use Rattle.theory.proofs.{Columns.lent, Columns.Fit, Endings.First, Endings.EndsAt, Weights.spanned, Scans.start_next};
+ghost use Rattle.theory.proofs.{Columns.lent, Endings.First, Endings.EndsAt, Weights.spanned, Scans.start_next};
 ghost use Rattle.completion.specs.Delays.{block_named};
 
 use crate::answer::Block;
-use crate::block::{largest_block, opened, weight};
-use crate::columns::{Columns, EARLIEST, MOST, URGENCY, figure};
+use crate::block::{counted, largest_block, opened};
+use crate::table::Table;
+use crate::target::Target;
 use jobs::set::JobSet;
 
 // Whether the jobs from `start` to before `end` are some, with the largest sum.
@@ -37,7 +38,7 @@ fn start_next(start: usize, target: u64, urgency: u64, i: usize) -> usize
 }
 
 // The jobs from place `first` to before place `end`, of which there are some, by their numbers.
-fn named<'a>(numbers: &'a [u16; JobSet::MAX_JOBS], first: usize, end: usize) -> Block
+fn named(numbers: &[u16; JobSet::MAX_JOBS], first: usize, end: usize) -> Block
     requires { (first < end) × (end ≤ max_jobs) }
     ensures { result ≡ block_named (number_at numbers.now) (record { first = first; end = end }) }
 {
@@ -48,41 +49,30 @@ fn named<'a>(numbers: &'a [u16; JobSet::MAX_JOBS], first: usize, end: usize) -> 
 }
 
 // Of the blocks with the largest sum the first, over the places from `first` to before `end`, all those of one chain.
-pub(crate) fn taken_block<'a, 'b, 'c>(
-    count: usize,
+pub(crate) fn taken_block(
+    table: &Table,
+    bound: &[u64; JobSet::MAX_JOBS],
+    numbers: &[u16; JobSet::MAX_JOBS],
+    target: Target,
     first: usize,
     end: usize,
-    columns: &'a Columns,
-    bound: &'b [u64; JobSet::MAX_JOBS],
-    numbers: &'c [u16; JobSet::MAX_JOBS],
-    target: u64,
-    from: u64,
-    to: u64,
 ) -> Block
-    requires { Fit (lent count columns.now) × (first < count) × First (lent count columns.now).chain first × EndsAt count (lent count columns.now).chain first end }
-    ensures { let t = lent count columns.now in
-        let taken = taken_block t (t.chain first) target (spanned columns.now bound.now from to) in
+    requires { let t = lent table.now.count table.now.columns in (first < t.count) × First t.chain first × EndsAt t.count t.chain first end }
+    ensures { let t = lent table.now.count table.now.columns in
+        let taken = taken_block t (t.chain first) target.urgency (spanned table.now.columns bound.now target.from target.to) in
         result ≡ block_named (number_at numbers.now) taken }
 {
-    let largest = largest_block(first, end, columns, bound, target, from, to);
+    let largest = largest_block(table, bound, target, first, end);
     let mut start = first;
     let mut sum: u64 = 0;
-    let mut i = first;
-    while i < end {
-        let urgency = figure(columns, URGENCY, i);
-        if ends_largest(start, i, sum, largest, target, urgency) {
+    for i in first..end {
+        let urgency = table.urgency(i);
+        if ends_largest(start, i, sum, largest, target.urgency, urgency) {
             return named(numbers, start, i);
         }
-        let counts = weight(
-            from,
-            to,
-            figure(columns, MOST, i),
-            figure(columns, EARLIEST, i),
-            bound[i],
-        );
-        sum = opened(sum, target, urgency, counts);
-        start = start_next(start, target, urgency, i);
-        i += 1;
+        let counts = counted(table, bound, target, i);
+        sum = opened(sum, target.urgency, urgency, counts);
+        start = start_next(start, target.urgency, urgency, i);
     }
     if is_largest(start, end, sum, largest) {
         return named(numbers, start, end);

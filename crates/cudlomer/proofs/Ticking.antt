@@ -1,4 +1,5 @@
 -- A tick on a state in memory: too few numbers, a refusal, what is written, and what a job that ran is called. Assumes nothing.
+use Rattle.std.specs.Prelude.{Result, Ok, Err, ⊤}
 use Prim.Native.Nat.{ℕ, ◌+◌, ◌*◌, ◌≤◌, ◌<◌}
 use mathlib.Core.Path.{◌≡◌, refl, sym, ap, subst, ◌∙◌}
 use mathlib.Core.Bool.{Bool, true, false, cond}
@@ -12,8 +13,6 @@ use Rattle.laws.specs.Words.{written}
 use Rattle.laws.proofs.Tests.{by_order, both_ways}
 use Rattle.jobs.specs.declared.job.Job.{Job}
 use Rattle.jobs.specs.declared.refusal.Refusal.TheVariants.{ShortBuffer}
-use Rattle.jobs.specs.declared.refusal.Check.{Check}
-use Rattle.jobs.specs.declared.refusal.Check.TheVariants.{Passed, Refused}
 use Rattle.jobs.specs.Limits.{max_jobs, max_chains}
 use Rattle.jobs.specs.Refusals.{on_pass, and_then}
 use Rattle.jobs.specs.Jobs.{no_job, job_at}
@@ -31,12 +30,13 @@ use Rattle.numbers.proofs.Rooms.{room_passes, room_short}
 use Rattle.numbers.proofs.States.{memory_back}
 use Rattle.cudlomer.specs.Codes.{refusal_code, chain_step, ticked_code}
 use Rattle.cudlomer.specs.Sets.{tick_check, tick_code, tick_into}
+use Rattle.jobs.specs.declared.refusal.Refusal.{Refusal}
 
 -- ---- a state of too few numbers
-short_by : (k : Check) (code : ℤ) (memory after : List ℕ)
-    → (on_pass k refusal_code (refusal_code ShortBuffer) ≡ on_pass (and_then k (Refused ShortBuffer)) refusal_code code) × (memory ≡ on_pass (and_then k (Refused ShortBuffer)) (λ refusal. memory) after)
-short_by Passed code memory after = (refl, refl)
-short_by (Refused r) code memory after = (refl, refl)
+short_by : (k : Result ⊤ Refusal) (code : ℤ) (memory after : List ℕ)
+    → (on_pass k refusal_code (refusal_code ShortBuffer) ≡ on_pass (and_then k (Err ShortBuffer)) refusal_code code) × (memory ≡ on_pass (and_then k (Err ShortBuffer)) (λ refusal. memory) after)
+short_by (Ok tt) code memory after = (refl, refl)
+short_by (Err r) code memory after = (refl, refl)
 
 pub tick_short : (js : List Job) (times memory : List ℕ) → length memory < state_size
     → (on_pass (machine_check js times) refusal_code (refusal_code ShortBuffer) ≡ tick_code js times memory) × (memory ≡ tick_into js times memory)
@@ -44,15 +44,15 @@ unfolding tick_check tick_code tick_into
 tick_short js times memory h = rw (← room_short state_size memory h) (short_by (machine_check js times) _ memory _)
 
 -- ---- a state of enough numbers
-abbrev step_by : Check → State → Stepped → Stepped
-step_by check s done = on_pass check (λ refusal. record { ticked = Ticked.Refused refusal; state = s }) done
+abbrev step_by : Result ⊤ Refusal → State → Stepped → Stepped
+step_by check s done = on_pass check (λ refusal. record { ticked = Err refusal; state = s }) done
 
-done_by : (k j : Check) (s : State) (done : Stepped) (memory : List ℕ) → written (state_numbers s) memory ≡ memory
-    → (ticked_code (step_by (and_then k j) s done).ticked ≡ on_pass (and_then k (and_then Passed j)) refusal_code (ticked_code done.ticked))
-    × (written (state_numbers (step_by (and_then k j) s done).state) memory ≡ on_pass (and_then k (and_then Passed j)) (λ refusal. memory) (written (state_numbers done.state) memory))
-done_by Passed Passed s done memory back = (refl, refl)
-done_by Passed (Refused r) s done memory back = (refl, back)
-done_by (Refused r) j s done memory back = (refl, back)
+done_by : (k j : Result ⊤ Refusal) (s : State) (done : Stepped) (memory : List ℕ) → written (state_numbers s) memory ≡ memory
+    → (ticked_code (step_by (and_then k j) s done).ticked ≡ on_pass (and_then k (and_then (Ok tt) j)) refusal_code (ticked_code done.ticked))
+    × (written (state_numbers (step_by (and_then k j) s done).state) memory ≡ on_pass (and_then k (and_then (Ok tt) j)) (λ refusal. memory) (written (state_numbers done.state) memory))
+done_by (Ok a) (Ok b) s done memory back = (refl, refl)
+done_by (Ok a) (Err r) s done memory back = (refl, back)
+done_by (Err r) j s done memory back = (refl, back)
 
 pub tick_done : (js : List Job) (times memory after : List ℕ) (stepped : Stepped) → state_size ≤ length memory → stepped ≡ step_of js times (state_in memory)
     → after ≡ written (state_numbers stepped.state) memory → (ticked_code stepped.ticked ≡ tick_code js times memory) × (after ≡ tick_into js times memory)
@@ -62,15 +62,15 @@ tick_done js times memory after stepped h e q =
     rw (← room_passes state_size memory h) (ap (λ (x : Stepped). ticked_code x.ticked) e ∙ both.0, q ∙ ap (λ (x : Stepped). written (state_numbers x.state) memory) e ∙ both.1)
 
 -- ---- a refused tick, whose answer alone is below zero
-none_below : (js : List Job) (complete : Bool) (e : Entry) → lt_z (ticked_code (cond complete Ticked.Finished (ran_as js e))) (pos 0) ≡ false
+none_below : (js : List Job) (complete : Bool) (e : Entry) → lt_z (ticked_code (Ok (cond complete Ticked.Finished (ran_as js e)))) (pos 0) ≡ false
 none_below js true e = refl
 none_below js false idle = refl
 none_below js false (runs u) = le-ltb ((job_at js u).chain * chain_step + (job_at js u).job) 0 (omega arith)
 
-kept_by : (k j : Check) (s : State) (done : Stepped) → lt_z (ticked_code done.ticked) (pos 0) ≡ false → lt_z (ticked_code (step_by (and_then k j) s done).ticked) (pos 0) ≡ true → (step_by (and_then k j) s done).state ≡ s
-kept_by Passed Passed s done none below = absurd (both_ways below none)
-kept_by Passed (Refused r) s done none below = refl
-kept_by (Refused r) j s done none below = refl
+kept_by : (k j : Result ⊤ Refusal) (s : State) (done : Stepped) → lt_z (ticked_code done.ticked) (pos 0) ≡ false → lt_z (ticked_code (step_by (and_then k j) s done).ticked) (pos 0) ≡ true → (step_by (and_then k j) s done).state ≡ s
+kept_by (Ok a) (Ok b) s done none below = absurd (both_ways below none)
+kept_by (Ok a) (Err r) s done none below = refl
+kept_by (Err r) j s done none below = refl
 
 state_kept : (js : List Job) (times : List ℕ) (s : State) → lt_z (ticked_code (step_of js times s).ticked) (pos 0) ≡ true → (step_of js times s).state ≡ s
 unfolding step_of tick_of
@@ -85,11 +85,11 @@ tick_refused js times memory stepped h e below =
     tick_done js times memory memory stepped h e (sym (ap (λ (s : State). written (state_numbers s) memory) kept ∙ memory_back memory h))
 
 -- ---- the chain and the job that ran have small numbers
-abbrev Small : Ticked → Type 0
-Small (Ticked.Ran chain job) = (chain ≤ max_chains) × (job ≤ max_jobs)
-Small Ticked.Idle = Unit
-Small Ticked.Finished = Unit
-Small (Ticked.Refused refusal) = Unit
+abbrev Small : Result Ticked Refusal → Type 0
+Small (Ok (Ticked.Ran chain job)) = (chain ≤ max_chains) × (job ≤ max_jobs)
+Small (Ok Ticked.Idle) = Unit
+Small (Ok Ticked.Finished) = Unit
+Small (Err refusal) = Unit
 
 small_job : (js : List Job) → Accepted js → (u : ℕ) → ((job_at js u).chain ≤ max_chains) × ((job_at js u).job ≤ max_jobs)
 small_job js ok u =
@@ -97,17 +97,17 @@ small_job js ok u =
     (λ beyond. rw (get_or-eq_default js no_job beyond) (omega arith, omega arith))
     (λ within. ((ok.limits u within).chains, omega (arith, job-place js ok u within, ok.few)))
 
-small_entry : (js : List Job) → Accepted js → (complete : Bool) (e : Entry) → Small (cond complete Ticked.Finished (ran_as js e))
+small_entry : (js : List Job) → Accepted js → (complete : Bool) (e : Entry) → Small (Ok (cond complete Ticked.Finished (ran_as js e)))
 small_entry js ok true e = tt
 small_entry js ok false idle = tt
 small_entry js ok false (runs u) = small_job js ok u
 
-small_by : (k j : Check) (s : State) (done : Stepped) → (k ≡ Passed → Small done.ticked) → Small (step_by (and_then k j) s done).ticked
-small_by Passed Passed s done small = small refl
-small_by Passed (Refused r) s done small = tt
-small_by (Refused r) j s done small = tt
+small_by : (k j : Result ⊤ Refusal) (s : State) (done : Stepped) → (k ≡ Ok tt → Small done.ticked) → Small (step_by (and_then k j) s done).ticked
+small_by (Ok a) (Ok b) s done small = small refl
+small_by (Ok a) (Err r) s done small = tt
+small_by (Err r) j s done small = tt
 
-pub ran_small : (js : List Job) (times : List ℕ) (s : State) (stepped : Stepped) → stepped ≡ step_of js times s → (chain job : ℕ) → stepped.ticked ≡ Ticked.Ran chain job → (chain ≤ max_chains) × (job ≤ max_jobs)
+pub ran_small : (js : List Job) (times : List ℕ) (s : State) (stepped : Stepped) → stepped ≡ step_of js times s → (chain job : ℕ) → stepped.ticked ≡ Ok (Ticked.Ran chain job) → (chain ≤ max_chains) × (job ≤ max_jobs)
 unfolding step_of tick_of machine_check
 ran_small js times s stepped e chain job ran =
     let t = table_of js in

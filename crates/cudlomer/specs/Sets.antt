@@ -1,16 +1,17 @@
 -- What C gets of a set that stands in its memory as numbers: the answer of each function, and what it leaves in memory.
 -- Numbers in memory are a set or a state as crates/numbers/specs says. Assumes nothing.
-use Rattle.std.specs.Prelude.{ℕ, List, ℤ, pos, length, take}
+use Rattle.std.specs.Prelude.{Result, Ok, Err, Bool, true, false, ℕ, List, ℤ, pos, length, take, ⊤}
 use Rattle.laws.specs.Words.{written}
-use Rattle.jobs.specs.declared.{job.Job.Job, refusal.Check.Check}
+use Rattle.jobs.specs.declared.{job.Job.Job}
 use Rattle.jobs.specs.{Refusals.on_pass, Refusals.and_then, Jobs.chains_of, Jobs.jobs_of, Checks.check_of}
 use Rattle.table.specs.Tables.{on_table}
 use Rattle.theory.specs.{Table.table_of, Bounds.itr}
-use Rattle.analysis.specs.declared.{answer.Verdict.Verdict, answer.Admission.Admission}
+use Rattle.analysis.specs.declared.{answer.Admission.Admission}
 use Rattle.analysis.specs.Answers.{bounds_by, delays_by, on_bounds, admission_of}
-use Rattle.machine.specs.{Ticks.machine_check, Ticks.state_check, Ticks.tick_of, Runs.run_of}
+use Rattle.machine.specs.{declared.run.Completed.Completed, Ticks.machine_check, Ticks.state_check, Ticks.tick_of, Runs.run_of}
 use Rattle.numbers.specs.Numbers.{set_in, held_set, state_size, state_numbers, state_in, delays_numbers, room_check, put_check, put_from}
 use Rattle.cudlomer.specs.Codes.{refusal_code, checked_code, ticked_code}
+use Rattle.jobs.specs.declared.refusal.Refusal.{Refusal}
 
 -- The jobs that numbers hold.
 abbrev pub jobs_here : List ℕ → List Job
@@ -58,19 +59,19 @@ abbrev pub admission_here : List ℕ → ℕ → List ℕ → ℕ → Admission
 admission_here numbers count chain algorithm = admission_of (set_in numbers count) (held_set chain) algorithm
 
 -- On yes how many jobs the set has, or 9 where they do not fit; on no 0.
-abbrev pub admit_code : Verdict → List Job → List ℕ → ℤ
-admit_code Verdict.Yes js memory = checked_code (put_check js memory) (length js)
-admit_code Verdict.No js memory = pos 0
-admit_code (Verdict.Refused refusal) js memory = refusal_code refusal
+abbrev pub admit_code : Result Bool Refusal → List Job → List ℕ → ℤ
+admit_code (Ok true) js memory = checked_code (put_check js memory) (length js)
+admit_code (Ok false) js memory = pos 0
+admit_code (Err refusal) js memory = refusal_code refusal
 
 -- Memory after it: on yes the new jobs stand behind the first count.
-abbrev pub admit_into : Verdict → List Job → ℕ → List ℕ → List ℕ
-admit_into Verdict.Yes js count memory = put_from js count memory
-admit_into Verdict.No js count memory = memory
-admit_into (Verdict.Refused refusal) js count memory = memory
+abbrev pub admit_into : Result Bool Refusal → List Job → ℕ → List ℕ → List ℕ
+admit_into (Ok true) js count memory = put_from js count memory
+admit_into (Ok false) js count memory = memory
+admit_into (Err refusal) js count memory = memory
 
 -- What is checked before a tick: the refusals of the set, then 8, then 9 where the state has too few numbers, then 11.
-unfoldable pub tick_check : List Job → List ℕ → List ℕ → Check
+unfoldable pub tick_check : List Job → List ℕ → List ℕ → Result ⊤ Refusal
 tick_check js times memory =
     and_then (machine_check js times) (and_then (room_check state_size memory) (state_check (table_of js) times (state_in memory)))
 
@@ -83,10 +84,15 @@ unfoldable pub tick_into : List Job → List ℕ → List ℕ → List ℕ
 tick_into js times memory =
     on_pass (tick_check js times memory) (λ refusal. memory) (written (state_numbers (tick_of js times (state_in memory)).state) memory)
 
+-- What is made of a run, or of its refusal.
+abbrev pub on_run : {A : Type 0} → Result Completed Refusal → (Refusal → A) → (Completed → A) → A
+on_run (Ok run) otherwise answer = answer run
+on_run (Err refusal) otherwise answer = otherwise refusal
+
 -- The end of a run: the refusals of the set, then 8, then 9 where there is not a number for each job.
 unfoldable pub run_code : List Job → List ℕ → List ℕ → ℤ
-run_code js times memory = let run = run_of js times in checked_code (and_then run.check (room_check (length js) memory)) run.end
+run_code js times memory = on_run (run_of js times) refusal_code (λ run. checked_code (room_check (length js) memory) run.end)
 
 -- Memory after it: each job's completion.
 unfoldable pub run_into : List Job → List ℕ → List ℕ → List ℕ
-run_into js times memory = let run = run_of js times in on_pass run.check (λ refusal. memory) (written (take (length js) run.completions) memory)
+run_into js times memory = on_run (run_of js times) (λ refusal. memory) (λ run. written (take (length js) run.completions) memory)

@@ -4,11 +4,9 @@ ghost use Rattle.jobs.specs.Limits.{max_jobs, max_chains};
 ghost use Rattle.machine.specs.Ticks.{last_time};
 ghost use Rattle.cudlomer.specs.Codes.{refusal_code, checked_code, written_code, verdict_code, ticked_code, traced_code};
 
-use analysis::answer::Verdict;
-use jobs::refusal::{Check, Refusal};
+use jobs::refusal::Refusal;
 use machine::step::Ticked;
 use machine::trace::Traced;
-use texts::written::Written;
 
 // By how much the code of a job that ran grows from chain to chain.
 pub const CHAIN_STEP: u64 = 65536;
@@ -21,57 +19,57 @@ pub(crate) fn negated(refusal: Refusal) -> i64
 }
 
 // A number where a check passes.
-pub(crate) fn checked_code(check: Check, number: u64) -> i64
+pub(crate) fn checked_code(check: Result<(), Refusal>, number: u64) -> i64
     requires { number ≤ last_time }
     ensures { result ≡ checked_code check number }
 {
     match check {
-        Check::Passed => number as i64,
-        Check::Refused(refusal) => negated(refusal),
+        Ok(()) => number as i64,
+        Err(refusal) => negated(refusal),
     }
 }
 
 // What writing a text came to.
-pub(crate) fn written_code(answer: Written) -> i64
+pub(crate) fn written_code(answer: Result<u32, Refusal>) -> i64
     ensures { result ≡ written_code answer }
 {
     match answer {
-        Written::Bytes(bytes) => bytes as i64,
-        Written::Refused(refusal) => negated(refusal),
+        Ok(bytes) => bytes as i64,
+        Err(refusal) => negated(refusal),
     }
 }
 
 // A verdict.
-pub(crate) fn verdict_code(verdict: Verdict) -> i64
+pub(crate) fn verdict_code(verdict: Result<bool, Refusal>) -> i64
     ensures { result ≡ verdict_code verdict }
 {
     match verdict {
-        Verdict::Yes => 1,
-        Verdict::No => 0,
-        Verdict::Refused(refusal) => negated(refusal),
+        Ok(true) => 1,
+        Ok(false) => 0,
+        Err(refusal) => negated(refusal),
     }
 }
 
 // What a tick of jobs with small numbers answers.
-pub(crate) fn ticked_code(ticked: Ticked) -> i64
-    requires { (chain job : ℕ) → ticked ≡ Ticked.Ran chain job → (chain ≤ max_chains) × (job ≤ max_jobs) }
+pub(crate) fn ticked_code(ticked: Result<Ticked, Refusal>) -> i64
+    requires { (chain job : ℕ) → ticked ≡ Ok (Ticked.Ran chain job) → (chain ≤ max_chains) × (job ≤ max_jobs) }
     ensures { result ≡ ticked_code ticked }
 {
     match ticked {
-        Ticked::Ran { chain, job } => (chain * CHAIN_STEP + job) as i64,
-        Ticked::Idle => 0,
-        Ticked::Finished => 1,
-        Ticked::Refused(refusal) => negated(refusal),
+        Ok(Ticked::Ran { chain, job }) => (chain * CHAIN_STEP + job) as i64,
+        Ok(Ticked::Idle) => 0,
+        Ok(Ticked::Finished) => 1,
+        Err(refusal) => negated(refusal),
     }
 }
 
 // What a trace of few entries came to.
-pub(crate) fn traced_code(traced: Traced) -> i64
-    requires { (n steps : ℕ) → traced ≡ Traced.Entries n steps → n ≤ last_time }
+pub(crate) fn traced_code(traced: Result<Traced, Refusal>) -> i64
+    requires { (t : Traced) → traced ≡ Ok t → t.entries ≤ last_time }
     ensures { result ≡ traced_code traced }
 {
     match traced {
-        Traced::Entries { entries, .. } => entries as i64,
-        Traced::Refused(refusal) => negated(refusal),
+        Ok(traced) => traced.entries as i64,
+        Err(refusal) => negated(refusal),
     }
 }

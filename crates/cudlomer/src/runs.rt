@@ -1,13 +1,13 @@
 // The functions that run a set in the caller's memory: one tick, the run, its steps, its trace and its waveform.
-ghost use Rattle.std.specs.Prelude.{◌≡◌, length};
+ghost use Rattle.std.specs.Prelude.{◌≡◌, length, pos};
 ghost use Rattle.jobs.specs.{declared.refusal.Refusal.Refusal, Refusals.on_pass, Jobs.jobs_of};
 ghost use Rattle.machine.specs.{Ticks.machine_check, Runs.run_of, Runs.trace_of, Runs.traced_in};
 ghost use Rattle.waveform.specs.Answers.{waveform_answer, waveform_left};
-ghost use Rattle.cudlomer.specs.{Codes.refusal_code, Codes.checked_code, Codes.traced_code, Codes.written_code};
-ghost use Rattle.cudlomer.specs.Sets.{jobs_here, tick_code, tick_into, run_code, run_into};
+ghost use Rattle.cudlomer.specs.{Codes.refusal_code, Codes.traced_code, Codes.written_code};
+ghost use Rattle.cudlomer.specs.Sets.{jobs_here, tick_code, tick_into, on_run, run_code, run_into};
 
 use crate::codes::{checked_code, negated, ticked_code, traced_code, written_code};
-use jobs::refusal::{Check, Refusal};
+use jobs::refusal::Refusal;
 use jobs::set::JobSet;
 use lent::tick::tick_kept;
 use machine::run::run;
@@ -22,7 +22,7 @@ use waveform::waveform::write_waveform;
 fn short_state(set: JobSet, times: &[u64]) -> i64
     ensures { result ≡ on_pass (machine_check (jobs_of set) times.now) refusal_code (refusal_code Refusal.ShortBuffer) }
 {
-    if let Check::Refused(refusal) = check_times(set, times) {
+    if let Err(refusal) = check_times(set, times) {
         return negated(refusal);
     }
     negated(Refusal::ShortBuffer)
@@ -38,13 +38,11 @@ pub extern "C" fn cudlomer_set_tick(jobs: &[u64], times: &[u64], state: &mut [u6
         return short_state(set, times);
     }
     let stepped = tick_kept(state_in(state), set, times);
-    let ticked = stepped.ticked;
-    let code = ticked_code(ticked);
+    let code = ticked_code(stepped.ticked);
     if code < 0 {
         return code;
     }
-    let after = stepped.state;
-    put_state(after, state);
+    let _ = put_state(stepped.state, state);
     code
 }
 
@@ -54,14 +52,11 @@ pub extern "C" fn cudlomer_set_run(jobs: &[u64], times: &[u64], out: &mut [u64])
     ensures { let js = jobs_here jobs.now in (result ≡ run_code js times.now out.old) × (out.new ≡ run_into js times.now out.old) }
 {
     let set = held_set(jobs);
-    let answer = run(set, times);
-    let check = answer.check;
-    if let Check::Refused(refusal) = check {
-        return negated(refusal);
-    }
-    let completions = answer.completions;
-    let count = set.count;
-    checked_code(put(&completions[..count], out), answer.end)
+    let run = match run(set, times) {
+        Ok(run) => run,
+        Err(refusal) => return negated(refusal),
+    };
+    checked_code(put(&run.completions[..set.count], out), run.end)
 }
 
 // Writes the entries of the run into out, chain, job, from and to for each, and answers how many there are.
@@ -75,11 +70,12 @@ pub extern "C" fn cudlomer_set_trace(jobs: &[u64], times: &[u64], out: &mut [u64
 // The steps of the run from event to event.
 #[unsafe(no_mangle)]
 pub extern "C" fn cudlomer_set_steps(jobs: &[u64], times: &[u64]) -> i64
-    ensures { let answer = run_of (jobs_here jobs.now) times.now in result ≡ checked_code answer.check answer.steps }
+    ensures { result ≡ on_run (run_of (jobs_here jobs.now) times.now) refusal_code (λ run. pos run.steps) }
 {
-    let answer = run(held_set(jobs), times);
-    let check = answer.check;
-    checked_code(check, answer.steps)
+    match run(held_set(jobs), times) {
+        Ok(run) => run.steps as i64,
+        Err(refusal) => negated(refusal),
+    }
 }
 
 // Writes the waveform of the run into out, and answers how many bytes it takes.

@@ -9,12 +9,10 @@ ghost use Rattle.cudlomer.specs.Sets.{jobs_here, read_code, read_into, bounds_co
 
 use crate::codes::{checked_code, negated, verdict_code, written_code};
 use analysis::admission::admit;
-use analysis::answer::Verdict;
 use analysis::bounds::{bounds, bounds_alone};
 use analysis::verdict::verdict;
 use completion::itr::itr_alone;
 use jobs::last::last_of;
-use jobs::refusal::Check;
 use jobs::set::JobSet;
 use numbers::delays::put_delays;
 use numbers::put::put;
@@ -34,9 +32,10 @@ fn put_set(set: JobSet, from: usize, memory: &mut [u64]) -> i64
 pub(crate) fn rounds_of(set: JobSet) -> i64
     ensures { result ≡ rounds_code (jobs_of set) }
 {
-    let answer = itr_alone(set);
-    let check = answer.check;
-    checked_code(check, answer.rounds)
+    match itr_alone(set) {
+        Ok(answer) => answer.rounds as i64,
+        Err(refusal) => negated(refusal),
+    }
 }
 
 // Reads the jobs of a table's text into memory, and answers how many there are.
@@ -44,12 +43,10 @@ pub(crate) fn rounds_of(set: JobSet) -> i64
 pub extern "C" fn cudlomer_set_read(text: &[u8], jobs: &mut [u64]) -> i64
     ensures { (result ≡ read_code text.now jobs.old) × (jobs.new ≡ read_into text.now jobs.old) }
 {
-    let reading = table::reading::read(text);
-    let check = reading.check;
-    if let Check::Refused(refusal) = check {
-        return negated(refusal);
+    match table::reading::read(text) {
+        Err(refusal) => negated(refusal),
+        Ok(set) => put_set(set, 0, jobs),
     }
-    put_set(reading.set, 0, jobs)
 }
 
 // Writes the text of a table with the jobs in memory into out, and answers how many bytes it takes.
@@ -66,14 +63,13 @@ pub extern "C" fn cudlomer_set_bounds(jobs: &[u64], algorithm: u64, out: &mut [u
     ensures { let js = jobs_here jobs.now in (result ≡ bounds_code js algorithm out.old) × (out.new ≡ bounds_into js algorithm out.old) }
 {
     let set = held_set(jobs);
-    let answer = bounds_alone(set, algorithm);
-    let check = answer.check;
-    if let Check::Refused(refusal) = check {
-        return negated(refusal);
+    match bounds_alone(set, algorithm) {
+        Ok(bounds) => {
+            let count = set.count;
+            checked_code(put(&bounds[..count], out), count as u64)
+        }
+        Err(refusal) => negated(refusal),
     }
-    let each = answer.bounds;
-    let count = set.count;
-    checked_code(put(&each[..count], out), count as u64)
 }
 
 // Writes what delays each job by 1 ERT, 2 CJA or 3 ITR into out: the number of the job from which its bound's sum begins, and of each chain the first and
@@ -83,19 +79,18 @@ pub extern "C" fn cudlomer_set_blocks(jobs: &[u64], algorithm: u64, out: &mut [u
     ensures { let js = jobs_here jobs.now in (result ≡ blocks_code js algorithm out.old) × (out.new ≡ blocks_into js algorithm out.old) }
 {
     let set = held_set(jobs);
-    let answer = bounds(set, algorithm);
-    let check = answer.check;
-    if let Check::Refused(refusal) = check {
-        return negated(refusal);
+    match bounds(set, algorithm) {
+        Ok(answer) => {
+            let count = set.count;
+            let last = last_of(set);
+            let chains = last.chain as usize;
+            checked_code(
+                put_delays(answer.delays, count, chains, out),
+                (count * (2 * chains + 1)) as u64,
+            )
+        }
+        Err(refusal) => negated(refusal),
     }
-    let count = set.count;
-    let last = last_of(set);
-    let chains = last.chain as usize;
-    let delays = answer.delays;
-    checked_code(
-        put_delays(delays, count, chains, out),
-        (count * (2 * chains + 1)) as u64,
-    )
 }
 
 // Answers 1 where all deadlines are met by the algorithm 1 ERT, 2 CJA or 3 ITR, and 0 where they are not.
@@ -129,8 +124,8 @@ pub extern "C" fn cudlomer_set_admit(
     let admission = admit(old, held_set(chain), algorithm);
     let verdict = admission.verdict;
     match verdict {
-        Verdict::Yes => put_set(admission.set, held, jobs),
-        Verdict::No => 0,
-        Verdict::Refused(refusal) => negated(refusal),
+        Ok(true) => put_set(admission.set, held, jobs),
+        Ok(false) => 0,
+        Err(refusal) => negated(refusal),
     }
 }

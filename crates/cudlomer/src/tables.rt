@@ -7,7 +7,6 @@ ghost use Rattle.cudlomer.specs.{Codes.written_code, Codes.verdict_code, Tables.
 use crate::codes::{negated, verdict_code, written_code};
 use crate::sets::rounds_of;
 use analysis::verdict::verdict;
-use jobs::refusal::Check;
 use report::bounds::bounds_text;
 use report::trace::trace_text;
 
@@ -32,12 +31,10 @@ pub extern "C" fn cudlomer_trace(text: &[u8], out: &mut [u8]) -> i64
 pub extern "C" fn cudlomer_verdict(text: &[u8], algorithm: u8) -> i64
     ensures { result ≡ verdict_code (verdict_of_table text.now algorithm) }
 {
-    let reading = table::reading::read(text);
-    let check = reading.check;
-    if let Check::Refused(refusal) = check {
-        return negated(refusal);
+    match table::reading::read(text) {
+        Err(refusal) => negated(refusal),
+        Ok(set) => verdict_code(verdict(set, algorithm as u64)),
     }
-    verdict_code(verdict(reading.set, algorithm as u64))
 }
 
 // Answers how many rounds ITR takes.
@@ -45,10 +42,8 @@ pub extern "C" fn cudlomer_verdict(text: &[u8], algorithm: u8) -> i64
 pub extern "C" fn cudlomer_rounds(text: &[u8]) -> i64
     ensures { result ≡ rounds_of_table text.now }
 {
-    let reading = table::reading::read(text);
-    let check = reading.check;
-    if let Check::Refused(refusal) = check {
-        return negated(refusal);
+    match table::reading::read(text) {
+        Err(refusal) => negated(refusal),
+        Ok(set) => rounds_of(set),
     }
-    rounds_of(reading.set)
 }

@@ -1,6 +1,6 @@
 -- Putting a number's digits into a buffer: one digit before the others, from the last to the first, and all of them by their count.
 -- Nothing here depends on a word's size. Assumes nothing.
-use Prim.Native.Nat.{ℕ, zero, suc, ◌+◌, ◌*◌, ◌-◌, ◌/◌, ◌%◌, ◌≤◌, ◌<◌}
+use Prim.Native.Nat.{ℕ, zero, suc, ◌+◌, ◌-◌, ◌/◌, ◌%◌, ◌≤◌, ◌<◌}
 use mathlib.Core.Path.{◌≡◌, refl, sym, ap, ◌∙◌}
 use mathlib.Core.List.{List, ◌∷◌, ◌++◌}
 use native.Mathlib.Omega.{arith}
@@ -17,12 +17,11 @@ set_front l i d h =
     rw (get_or-set_same l i d 0 h, drop-set-lt (suc i) l i d (omega arith))
 
 -- the digit before the digits that stand
-put_digit : (l : List ℕ) (i n : ℕ) → 0 < i → i ≤ length l → last_digits (i - 1) (n / 10) ++ drop (i - 1) (set l (i - 1) (48 + (n - n / 10 * 10))) ≡ last_digits i n ++ drop i l
+put_digit : (l : List ℕ) (i n : ℕ) → 0 < i → i ≤ length l → last_digits (i - 1) (n / 10) ++ drop (i - 1) (set l (i - 1) (48 + n % 10)) ≡ last_digits i n ++ drop i l
 put_digit l zero n h k = absurd (omega arith)
 put_digit l (suc i) n h k =
     let e : suc i - 1 ≡ i = omega arith in
-    let d : n - n / 10 * 10 ≡ n % 10 = omega arith in
-    rw (e, d, set_front l i (48 + n % 10) k) (sym (last_more i n (drop (suc i) l)))
+    rw (e, set_front l i (48 + n % 10) k) (sym (last_more i n (drop (suc i) l)))
 
 -- what is done when `place` digits, those of `left`, are still to be put before the others
 pub record DigitsPut (value count : ℕ) (before : List ℕ) (place left : ℕ) (rest : List ℕ) : Type 0 where
@@ -35,12 +34,12 @@ pub put_none : (value count : ℕ) (before : List ℕ) → DigitsPut value count
 put_none value count before = record { within = omega arith; smaller = omega arith; same_length = refl; complete = refl }
 
 module _ {value count place left : ℕ} {before rest : List ℕ} (p : DigitsPut value count before place left rest) where
-  pub put_next : count ≤ length before → 0 < place → DigitsPut value count before (place - 1) (left / 10) (set rest (place - 1) (48 + (left - left / 10 * 10)))
+  pub put_next : count ≤ length before → 0 < place → DigitsPut value count before (place - 1) (left / 10) (set rest (place - 1) (48 + left % 10))
   put_next room h =
       record {
         within = omega (arith, p.within);
         smaller = omega (arith, p.smaller);
-        same_length = length-set rest (place - 1) (48 + (left - left / 10 * 10)) ∙ p.same_length;
+        same_length = length-set rest (place - 1) (48 + left % 10) ∙ p.same_length;
         complete = put_digit rest place left h (omega (arith, p.within, p.same_length)) ∙ p.complete;
       }
 

@@ -13,9 +13,9 @@ use lib.Seq.{drop-cons}
 use borrow.Author.Tests.{le-leb, lt-leb, lt-ltb, eq-eqb, ne_eqb, eqb-true, eqb-false}
 use Rattle.laws.proofs.Tests.{by_test}
 use Rattle.decimal.specs.declared.field.Field.{Field}
-use Rattle.decimal.specs.declared.field.Field.TheVariants.{Number, NoNumber}
+use Rattle.std.specs.Prelude.{Option, None}
 use Rattle.decimal.specs.Digits.{value_from}
-use Rattle.decimal.specs.Fields.{is_digit, digit_run, max_digits, leading_zero, is_numeral, field_of}
+use Rattle.decimal.specs.Fields.{is_digit, digit_run, max_digits, leading_zero, is_numeral, number, field_of}
 use Rattle.decimal.proofs.Counts.{ten_within}
 use Rattle.decimal.proofs.Fields.{digit_least, digit_greatest}
 
@@ -24,19 +24,19 @@ abbrev pub ends : ℕ → ℕ → Bool
 ends v n = cond (eqb n max_digits) true (cond (eqb n 0) false (eqb v 0))
 
 -- the answer where no digit follows n digits of value v
-abbrev pub ended : ℕ → ℕ → Field
-ended v n = cond (eqb n 0) NoNumber (Number v n)
+abbrev pub ended : ℕ → ℕ → Option Field
+ended v n = cond (eqb n 0) None (number v n)
 
 -- the answer after n digits of value v, with a text still to be read
-unfoldable pub field_from : ℕ → ℕ → List ℕ → Field
+unfoldable pub field_from : ℕ → ℕ → List ℕ → Option Field
 field_from v n [] = ended v n
 field_from v n (b ∷ text) =
     let more = field_from (v * 10 + (b - 48)) (n + 1) text in
-    cond (is_digit b) (cond (ends v n) NoNumber more) (ended v n)
+    cond (is_digit b) (cond (ends v n) None more) (ended v n)
 
 -- the same by the run of digits still to be read
-abbrev longer : ℕ → ℕ → List ℕ → Field
-longer v n run = cond (leb (n + length run) max_digits) (Number (value_from v run) (n + length run)) NoNumber
+abbrev longer : ℕ → ℕ → List ℕ → Option Field
+longer v n run = cond (leb (n + length run) max_digits) (number (value_from v run) (n + length run)) None
 
 longer_none : (v n : ℕ) → 0 < n → n ≤ max_digits → ended v n ≡ longer v n []
 unfolding value_from
@@ -56,7 +56,7 @@ longer_more b v n text pv pn d f r =
     let more = digit_run text in
     let e : n + 1 + length more ≡ n + suc (length more) = omega arith in
     simp (d, f, ne_eqb n 0 (λ z. omega arith), ne_eqb v 0 (λ z. omega arith))
-    (r ∙ ap (λ (k : ℕ). cond (leb k max_digits) (Number (value_from (v * 10 + (b - 48)) more) k) NoNumber) e)
+    (r ∙ ap (λ (k : ℕ). cond (leb k max_digits) (number (value_from (v * 10 + (b - 48)) more) k) None) e)
 
 from_longer : (text : List ℕ) (v n : ℕ) → 0 < v → 0 < n → n ≤ max_digits → field_from v n text ≡ longer v n (digit_run text)
 unfolding field_from digit_run
@@ -94,7 +94,7 @@ second_other b c text d e f =
     let q : 2 + length (digit_run text) ≡ suc (suc (length (digit_run text))) = omega arith in
     simp (d, e, numeral_longer b c (digit_run text) f, ne_eqb v 0 (λ z. omega arith))
     (from_longer text w 2 (omega arith) (omega arith) (omega arith) ∙
-    ap (λ (k : ℕ). cond (leb k max_digits) (Number (value_from w (digit_run text)) k) NoNumber) q)
+    ap (λ (k : ℕ). cond (leb k max_digits) (number (value_from w (digit_run text)) k) None) q)
 
 one_digit : (b : ℕ) (text : List ℕ) → is_digit b ≡ true → field_from (0 * 10 + (b - 48)) (0 + 1) text ≡ field_of (b ∷ text)
 unfolding field_from field_of digit_run value_from is_numeral leading_zero
@@ -132,15 +132,18 @@ module _ {text : List ℕ} {v n : ℕ} (r : DigitsRead text v n) where
   pub read_small : v < 10 ^ max_digits
   read_small = omega (arith, r.below, ten_within r.few)
 
-  pub read_end : length text ≤ n → ended v n ≡ field_of text
+  read_end : length text ≤ n → ended v n ≡ field_of text
   unfolding field_from
   read_end h = rw (drop_of_length-le text h) at r.follows
+
+  pub read_all : n ≤ length text → length text ≤ n → ended v (length text) ≡ field_of text
+  read_all g h = let e : length text ≡ n = omega arith in ap (ended v) e ∙ read_end h
 
   pub read_other : n < length text → is_digit (get_or text n 0) ≡ false → ended v n ≡ field_of text
   unfolding field_from
   read_other h d = rw (drop-cons text n 0 h, d) at r.follows
 
-  pub read_last : n < length text → is_digit (get_or text n 0) ≡ true → ends v n ≡ true → NoNumber ≡ field_of text
+  pub read_last : n < length text → is_digit (get_or text n 0) ≡ true → ends v n ≡ true → None ≡ field_of text
   unfolding field_from
   read_last h d e = rw (drop-cons text n 0 h, d, e) at r.follows
 

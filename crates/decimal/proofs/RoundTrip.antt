@@ -6,9 +6,8 @@ use mathlib.Core.List.{List, [], ◌∷◌, ◌++◌, append_assoc, append-nil}
 use mathlib.Core.Path.{◌≡◌, refl, ap, ◌∙◌}
 use native.Mathlib.Omega.{arith}
 use borrow.Author.Tests.{le-leb}
-use Rattle.decimal.specs.declared.field.Field.TheVariants.{Number}
 use Rattle.decimal.specs.Digits.{digit_count, decimal}
-use Rattle.decimal.specs.Fields.{digit_run, max_digits, is_numeral, field_of}
+use Rattle.decimal.specs.Fields.{digit_run, max_digits, is_numeral, number, field_of}
 use Rattle.decimal.proofs.Digits.{decimal_one, decimal_more, by_digits}
 use Rattle.decimal.proofs.Counts.{count_some}
 use Rattle.decimal.proofs.Values.{value_decimal, no_leading_zero}
@@ -35,7 +34,7 @@ unfolding is_numeral
 numeral_decimal n h =
     rw (le-leb 1 (digit_count n) (count_some n), le-leb (digit_count n) max_digits h, no_leading_zero n) refl
 
-pub round_trip : (n : ℕ) (rest : List ℕ) → digit_count n ≤ max_digits → digit_run rest ≡ [] → field_of (decimal n ++ rest) ≡ Number n (digit_count n)
+pub round_trip : (n : ℕ) (rest : List ℕ) → digit_count n ≤ max_digits → digit_run rest ≡ [] → field_of (decimal n ++ rest) ≡ number n (digit_count n)
 unfolding field_of
 round_trip n rest h e =
     rw (run-decimal n rest e, numeral_decimal n h, value_decimal n) refl

@@ -1,7 +1,6 @@
 -- What is proved of decimal digits, for numbers of any size; proofs/Claims.antt has the proof of all. Assumes nothing.
 use Rattle.std.specs.Prelude.{ℕ, suc, ◌-◌, ◌^◌, ◌≤◌, ◌<◌, ◌≡◌, false, List, [], ◌++◌}
-use Rattle.decimal.specs.declared.field.Field.{Field}
-use Rattle.decimal.specs.{Digits.digit_count, Digits.decimal, Digits.value_from, Fields.max_digits, Fields.digit_run, Fields.leading_zero, Fields.field_of}
+use Rattle.decimal.specs.{Digits.digit_count, Digits.decimal, Digits.value_from, Fields.max_digits, Fields.digit_run, Fields.leading_zero, Fields.number, Fields.field_of}
 
 -- One field for each theorem on digits, counts and reading back.
 pub record Claims : Type 0 where
@@ -16,4 +15,4 @@ pub record Claims : Type 0 where
   -- No number has a leading zero; the digits of 0 are a single 0.
   pub no_leading_zero : (n : ℕ) → leading_zero (decimal n) ≡ false
   -- Reading a number's digits, with no digit after them, gives the number and its length back.
-  pub round_trip : (n : ℕ) (rest : List ℕ) → digit_count n ≤ max_digits → digit_run rest ≡ [] → field_of (decimal n ++ rest) ≡ Field.Number n (digit_count n)
+  pub round_trip : (n : ℕ) (rest : List ℕ) → digit_count n ≤ max_digits → digit_run rest ≡ [] → field_of (decimal n ++ rest) ≡ number n (digit_count n)

@@ -1,5 +1,5 @@
 -- A field of a table: a decimal number at the start of a text. Document 01, "A job table". Assumes nothing.
-use Rattle.std.specs.Prelude.{ℕ, Bool, cond, not, ◌&&◌, List, [], ◌∷◌, leb, ltb, eqb, length, get_or}
+use Rattle.std.specs.Prelude.{Option, None, Some, ℕ, Bool, cond, not, ◌&&◌, List, [], ◌∷◌, leb, ltb, eqb, length, get_or}
 use Rattle.decimal.specs.{Digits.value_from, declared.field.Field.Field}
 
 -- Whether a byte is the code of a digit, 48 for 0 to 57 for 9.
@@ -23,6 +23,10 @@ leading_zero digits = ltb 1 (length digits) && eqb (get_or digits 0 0) 48
 unfoldable pub is_numeral : List ℕ → Bool
 is_numeral digits = leb 1 (length digits) && leb (length digits) max_digits && not (leading_zero digits)
 
+-- A number that takes so many bytes.
+abbrev pub number : ℕ → ℕ → Option Field
+number value n = Some (record { value = value; length = n })
+
 -- The number that the whole run of digits at the start of a text spells and how many bytes it takes, or no number.
-unfoldable pub field_of : List ℕ → Field
-field_of text = let run = digit_run text in cond (is_numeral run) (Field.Number (value_from 0 run) (length run)) Field.NoNumber
+unfoldable pub field_of : List ℕ → Option Field
+field_of text = let run = digit_run text in cond (is_numeral run) (number (value_from 0 run) (length run)) None

@@ -8,7 +8,7 @@ use crate::count::digit_count;
 use crate::unsigned::write_unsigned;
 
 // Writes value at the start of rest, after a minus sign where it is below zero, and answers how many bytes that takes.
-// Where they do not fit nothing is written, and the answer is 0.
+// Where they do not fit nothing is written, and the answer is 0, as the promise says.
 pub fn write_signed(value: i64, rest: &mut [u8]) -> usize
     ensures { (result ≡ written_length (signed value) rest.old) × (rest.new ≡ written (signed value) rest.old) }
 {

@@ -7,7 +7,7 @@ ghost use Rattle.decimal.specs.Digits.{decimal};
 use crate::count::digit_count;
 
 // Writes the digits of value at the start of rest and answers how many there are.
-// Where they do not fit nothing is written, and the answer is 0.
+// Where they do not fit nothing is written, and the answer is 0: the promise, by written_length, says that number, so that it is no Option.
 pub fn write_unsigned(value: u64, rest: &mut [u8]) -> usize
     ensures { (result ≡ written_length (decimal value) rest.old) × (rest.new ≡ written (decimal value) rest.old) }
 {
@@ -24,12 +24,9 @@ fn put_digits(value: u64, count: usize, rest: &mut [u8])
     requires { count ≤ length rest.old }
     ensures { rest.new ≡ last_digits count value ++ drop count rest.old }
 {
-    let mut place = count;
     let mut left = value;
-    while 0 < place {
-        let tens = left / 10;
-        place -= 1;
-        rest[place] = b'0' + (left - tens * 10) as u8;
-        left = tens;
+    for place in (0..count).rev() {
+        rest[place] = b'0' + (left % 10) as u8;
+        left /= 10;
     }
 }

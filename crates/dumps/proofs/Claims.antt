@@ -1,11 +1,10 @@
 -- The theorems of specs/Claims.antt, for every accepted set and running times in range. Assumes nothing.
+use Rattle.std.specs.Prelude.{Some, Ok}
 use Prim.Native.Nat.{ℕ, ◌≤◌, ◌<◌}
 use mathlib.Core.Path.{◌≡◌, ap, ◌∙◌}
-use mathlib.Core.Option.{some}
 use mathlib.Core.List.{List}
 use lib.ListN.{length}
 use Rattle.jobs.specs.declared.job.Job.{Job}
-use Rattle.jobs.specs.declared.refusal.Check.TheVariants.{Passed}
 use Rattle.jobs.specs.Jobs.{job_at}
 use Rattle.jobs.proofs.Accepted.{Accepted}
 use Rattle.theory.specs.Table.{table_of}
@@ -23,7 +22,7 @@ use Rattle.dumps.proofs.GivesBack.{dump_gives_back}
 use Rattle.dumps.proofs.Held.{high_held, held-names}
 use Rattle.dumps.proofs.Fits.{dump_fits}
 
-module _ (js : List Job) (times : List ℕ) (passed : machine_check js times ≡ Passed) where
+module _ (js : List Job) (times : List ℕ) (passed : machine_check js times ≡ Ok tt) where
   accepted : Accepted js
   accepted = set_accepted js times passed
 
@@ -36,7 +35,7 @@ module _ (js : List Job) (times : List ℕ) (passed : machine_check js times ≡
   ended : EndedBy last_time (traced js times)
   ended = spans-ended (table_of js) times last_time
 
-  waveform_gives_back : rows_in (waveform_of js times) ≡ some (rows js (traced js times))
+  waveform_gives_back : rows_in (waveform_of js times) ≡ Some (rows js (traced js times))
   unfolding waveform_of
   waveform_gives_back = dump_gives_back js accepted (traced js times) ordered within ended
 

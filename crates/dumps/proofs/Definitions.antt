@@ -1,8 +1,8 @@
 -- The definitions of a dump: a reader finds a wire for each job, in table order, and then the lines after the definitions. Assumes nothing.
+use Rattle.std.specs.Prelude.{Some}
 use Prim.Native.Nat.{ℕ, zero, suc, ◌+◌, ◌≤◌, ◌<◌}
 use mathlib.Core.Path.{◌≡◌, refl, ap, ◌∙◌}
 use mathlib.Core.Bool.{true, false}
-use mathlib.Core.Option.{some}
 use mathlib.Core.List.{List, [], ◌∷◌, ◌++◌, append_assoc}
 use native.Mathlib.Omega.{arith}
 use lib.ListN.{length}
@@ -53,7 +53,7 @@ module _ (js : List Job) (ok : Accepted js) where
   unfolding same
   wire_first u = rw (words_are u (job_at js u).chain (job_at js u).job)
 
-  wire_back : (u : ℕ) → u < length js → wire_in (wire_line js u) ≡ some (wire_at js (λ k. unknown) u)
+  wire_back : (u : ℕ) → u < length js → wire_in (wire_line js u) ≡ Some (wire_at js (λ k. unknown) u)
   unfolding wire_in same
   wire_back u l =
       let words = words_are u (job_at js u).chain (job_at js u).job in
@@ -61,13 +61,13 @@ module _ (js : List Job) (ok : Accepted js) where
       rw (words, name, identifier_fit u (omega (arith, ok.few)))
 
   -- ---- all lines
-  wires_back : (lines after : List (List ℕ)) → wires_in lines ≡ some ([], after) → (i n : ℕ) → i + n ≤ length js
-      → wires_in (tabulate i n (wire_line js) ++ lines) ≡ some (tabulate i n (wire_at js (λ k. unknown)), after)
+  wires_back : (lines after : List (List ℕ)) → wires_in lines ≡ Some ([], after) → (i n : ℕ) → i + n ≤ length js
+      → wires_in (tabulate i n (wire_line js) ++ lines) ≡ Some (tabulate i n (wire_at js (λ k. unknown)), after)
   unfolding tabulate wires_in
   wires_back lines after e i zero l = e
   wires_back lines after e i (suc n) l = rw (wire_not_last i, wire_first i, wire_back i (omega arith), wires_back lines after e (suc i) n (omega arith))
 
-  pub definitions_back : (after : List (List ℕ)) → wires_in (header_lines js ++ after) ≡ some (wires_of js (λ k. unknown), after)
+  pub definitions_back : (after : List (List ℕ)) → wires_in (header_lines js ++ after) ≡ Some (wires_of js (λ k. unknown), after)
   unfolding header_lines wires_in is_command words_of last_of same
   definitions_back after =
       let last : List (List ℕ) = ascii "$upscope $end" ∷ ascii "$enddefinitions $end" ∷ [] in

@@ -14,7 +14,7 @@ use borrow.Author.Tests.{eq-eqb, ne_eqb}
 use Rattle.laws.specs.Words.{number_at, patched}
 use Rattle.laws.proofs.Tests.{by_test, by_equal}
 use Rattle.jobs.specs.declared.job.Job.{Job}
-use Rattle.jobs.specs.declared.refusal.Check.TheVariants.{Passed}
+use Rattle.std.specs.Prelude.{Ok}
 use Rattle.jobs.specs.Limits.{max_jobs}
 use Rattle.jobs.specs.Jobs.{job_at}
 use Rattle.jobs.proofs.Accepted.{Accepted}
@@ -62,7 +62,7 @@ first_value m few (s ∷ r ∷ rs) o u l =
     runs_later s (r ∷ rs) (λ e. omega (arith, o.1.0, o.2.0)) u ∙ first_value m few (r ∷ rs) o.2 u l
 
 -- ---- a trace
-module _ (js : List Job) (times : List ℕ) (passed : machine_check js times ≡ Passed) (buffer : List ℕ) where
+module _ (js : List Job) (times : List ℕ) (passed : machine_check js times ≡ Ok tt) (buffer : List ℕ) where
   abbrev left : List ℕ
   left = patched buffer 0 (rows js (traced js times))
 

@@ -1,7 +1,7 @@
 -- A dump read gives the rows of its spans back, whatever spans in order they are. Assumes nothing.
+use Rattle.std.specs.Prelude.{None, Some}
 use Prim.Native.Nat.{ℕ}
 use mathlib.Core.Path.{◌≡◌}
-use mathlib.Core.Option.{none, some}
 use mathlib.Core.List.{List, [], ◌++◌, append_assoc}
 use lib.ListN.{length}
 use Rattle.jobs.specs.declared.job.Job.{Job}
@@ -26,7 +26,7 @@ module _ (js : List Job) (ok : Accepted js) (ss : List Span) (ordered : Ordered 
   abbrev body : List (List ℕ)
   body = start_lines (length js) ss ++ change_lines ss
 
-  lines_are : lines_in (dump_of js ss) ≡ some (header_lines js ++ body)
+  lines_are : lines_in (dump_of js ss) ≡ Some (header_lines js ++ body)
   unfolding dump_of
   lines_are =
       let regroup = append_assoc (header_lines js) (start_lines (length js) ss) (change_lines ss) in
@@ -35,9 +35,9 @@ module _ (js : List Job) (ok : Accepted js) (ss : List Span) (ordered : Ordered 
       (whole_append (header_lines js) body (header_whole js)
       (whole_append (start_lines (length js) ss) (change_lines ss) (start_whole (length js) ss) (changes_whole ss))))
 
-  body_told : Reads body (seen_as js none (λ k. unknown) []) (seen_as js (some (last_change ss)) quiet (rows js ss))
+  body_told : Reads body (seen_as js None (λ k. unknown) []) (seen_as js (Some (last_change ss)) quiet (rows js ss))
   body_told = reads_append (start_lines (length js) ss) (change_lines ss) _ (start_told js ss (one_first ss ordered)) (changes_told js ss ordered within ended)
 
-  pub dump_gives_back : rows_in (dump_of js ss) ≡ some (rows js ss)
+  pub dump_gives_back : rows_in (dump_of js ss) ≡ Some (rows js ss)
   unfolding rows_in
   dump_gives_back = rw (lines_are, definitions_back js ok body, body_told, all_low_lem js)

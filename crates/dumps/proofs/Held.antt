@@ -1,9 +1,9 @@
 -- A row of a job holds a time exactly where the spans' entry at that time names the job: no two spans hold the same time, and no two jobs have the same
 -- numbers. Assumes nothing.
+use Rattle.std.specs.Prelude.{Some}
 use Prim.Native.Nat.{ℕ, ◌≤◌, ◌<◌}
 use mathlib.Core.Path.{◌≡◌, refl, sym, ◌∙◌}
 use mathlib.Core.Bool.{Bool, ◌&&◌, ◌||◌, and-true, and-false, and_assoc, or-false, or_assoc}
-use mathlib.Core.Option.{some}
 use mathlib.Core.List.{List, [], ◌∷◌, ◌++◌, append_assoc}
 use native.Mathlib.Omega.{arith}
 use lib.Dec.{leb, ltb, eqb}
@@ -24,7 +24,7 @@ use Rattle.dumps.specs.Readers.{rows_in, held, is_high}
 use Rattle.dumps.proofs.Changes.{last-before}
 
 -- a dump shows what its rows hold
-pub high_held : (text : List ℕ) {found : List ℕ} → rows_in text ≡ some found → (chain number t : ℕ) → is_high text chain number t ≡ held found chain number t
+pub high_held : (text : List ℕ) {found : List ℕ} → rows_in text ≡ Some found → (chain number t : ℕ) → is_high text chain number t ≡ held found chain number t
 high_held text e chain number t = rw (e, is_high)
 
 -- ---- rows one after another

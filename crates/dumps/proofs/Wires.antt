@@ -2,10 +2,10 @@
 -- of them 0, and none of them 1. Assumes nothing.
 --   wire_at    the wire of the job at a place
 --   Becomes   the levels after one wire has taken a level
+use Rattle.std.specs.Prelude.{Some}
 use Prim.Native.Nat.{ℕ, zero, suc, ◌+◌, ◌≤◌, ◌<◌}
 use mathlib.Core.Path.{◌≡◌, refl, ◌∙◌}
 use mathlib.Core.Bool.{true, false, cond}
-use mathlib.Core.Option.{some}
 use mathlib.Core.List.{List}
 use native.Mathlib.Omega.{arith}
 use lib.Dec.{eqb}
@@ -33,7 +33,7 @@ module _ (js : List Job) where
   pub wires_ext : (levels after : ℕ → Level) → ((k : ℕ) → k < length js → levels k ≡ after k) → wires_of js levels ≡ wires_of js after
   wires_ext levels after h = tabulate_ext 0 (length js) (wire_at js levels) (wire_at js after) (λ k _ l. rw (h k (omega arith)))
 
-  found_from : (levels : ℕ → Level) (u i n : ℕ) → i ≤ u → u < i + n → wire_of (tabulate i n (wire_at js levels)) (identifier_of (suc u)) ≡ some (wire_at js levels u)
+  found_from : (levels : ℕ → Level) (u i n : ℕ) → i ≤ u → u < i + n → wire_of (tabulate i n (wire_at js levels)) (identifier_of (suc u)) ≡ Some (wire_at js levels u)
   unfolding tabulate wire_of
   found_from levels u i zero h l = absurd (omega arith)
   found_from levels u i (suc n) h l =
@@ -41,7 +41,7 @@ module _ (js : List Job) where
       (λ e. rw (identifier_same u i, eq-eqb u i e, e))
       (λ ne. rw (identifier_same u i, ne_eqb u i ne) (found_from levels u (suc i) n (omega arith) (omega arith)))
 
-  pub wire_found : (levels : ℕ → Level) (u : ℕ) → u < length js → wire_of (wires_of js levels) (identifier_of (suc u)) ≡ some (wire_at js levels u)
+  pub wire_found : (levels : ℕ → Level) (u : ℕ) → u < length js → wire_of (wires_of js levels) (identifier_of (suc u)) ≡ Some (wire_at js levels u)
   wire_found levels u l = found_from levels u 0 (length js) (omega arith) (omega arith)
 
   pub with_level_lem : (u : ℕ) (level : Level) (levels after : ℕ → Level) → Becomes u level levels after → with_level (identifier_of (suc u)) level (wires_of js levels) ≡ wires_of js after

@@ -13,8 +13,7 @@ use Rattle.jobs.specs.declared.job.Job.{Job}
 use Rattle.jobs.specs.declared.set.JobSet.{JobSet}
 use Rattle.jobs.specs.declared.refusal.Refusal.{Refusal}
 use Rattle.jobs.specs.declared.refusal.Refusal.TheVariants.{NoRecord}
-use Rattle.jobs.specs.declared.refusal.Check.{Check}
-use Rattle.jobs.specs.declared.refusal.Check.TheVariants.{Passed, Refused}
+use Rattle.std.specs.Prelude.{Result, ⊤, Ok, Err}
 use Rattle.jobs.specs.Limits.{max_jobs, max_chains}
 use Rattle.jobs.specs.Jobs.{no_job, jobs_of, set_of, job_at}
 use Rattle.jobs.specs.Checks.{record_check, records_check}
@@ -51,7 +50,7 @@ last_at js h =
 pub last-held : (js : List Job) (last : Job) → last ≡ last_of no_job (take max_jobs js) → length js ≤ max_jobs → last ≡ last_of no_job js
 last-held js last e h = e ∙ ap (last_of no_job) (take_all max_jobs js h)
 
-pub last_chain : (js : List Job) → records_check [] js ≡ Passed → (last_of no_job js).chain ≤ max_chains
+pub last_chain : (js : List Job) → records_check [] js ≡ Ok tt → (last_of no_job js).chain ≤ max_chains
 last_chain [] e = unfold last_of in omega arith
 last_chain (j ∷ js) e =
     rw (last_at (j ∷ js) (omega arith)) (limited_at (j ∷ js) e (length (j ∷ js) - 1) (omega arith)).chains
@@ -110,7 +109,7 @@ to_come_none : (old new : List Job) (k : ℕ) → length new ≤ k → to_come o
 unfolding to_come numbered
 to_come_none old new k h = rw (drop_of_length-le new h)
 
-pub joining_start : (old new : List Job) (s : JobSet) (last : Job) → records_check [] old ≡ Passed → s ≡ set_of old → last ≡ last_of no_job old → Joining old new 0 s last
+pub joining_start : (old new : List Job) (s : JobSet) (last : Job) → records_check [] old ≡ Ok tt → s ≡ set_of old → last ≡ last_of no_job old → Joining old new 0 s last
 joining_start old new s last e f g =
     record {
       inside = omega arith;
@@ -125,22 +124,22 @@ module _ {old new : List Job} {k : ℕ} {s : JobSet} {last : Job} (r : Joining o
   unfolding set_of
   joining_count = ap (λ (x : JobSet). x.count) r.holds ∙ length_so_far old new k r.inside
 
-  pub joining_end : length new ≤ k → (records_check [] (with_chain old new) ≡ Passed) × (s ≡ set_of (with_chain old new))
+  pub joining_end : length new ≤ k → (records_check [] (with_chain old new) ≡ Ok tt) × (s ≡ set_of (with_chain old new))
   joining_end h =
       (sym r.rest ∙ rw (to_come_none old new k h) (records_none (so_far old new k)), r.holds ∙ ap set_of (so_far_all old new k h))
 
   -- the next new record, which is j
   module _ {j : Job} (here : k < length new) (is-here : j ≡ next_job old new k) where
-    next_is : (o : Check) → record_check s.count last j ≡ o → next_check (so_far old new k) (next_job old new k) ≡ o
+    next_is : (o : Result ⊤ Refusal) → record_check s.count last j ≡ o → next_check (so_far old new k) (next_job old new k) ≡ o
     next_is o e = rw (length_so_far old new k r.inside, ← joining_count, ← r.before, ← is-here) e
 
-    pub joining_refused : (x : Refusal) → record_check s.count last j ≡ Refused x → records_check [] (with_chain old new) ≡ Refused x
+    pub joining_refused : (x : Refusal) → record_check s.count last j ≡ Err x → records_check [] (with_chain old new) ≡ Err x
     joining_refused x e =
         sym r.rest
         ∙ rw (to_come-next old new k here)
-        (records_refused (so_far old new k) (next_job old new k) (to_come old new (suc k)) x (next_is (Refused x) e))
+        (records_refused (so_far old new k) (next_job old new k) (to_come old new (suc k)) x (next_is (Err x) e))
 
-    pub joining_next : s.count < max_jobs → record_check s.count last j ≡ Passed → Joining old new (k + 1) (grown s j) j
+    pub joining_next : s.count < max_jobs → record_check s.count last j ≡ Ok tt → Joining old new (k + 1) (grown s j) j
     joining_next h e =
         let room : length (so_far old new k) < max_jobs = omega (arith, length_so_far old new k r.inside, joining_count) in
         rw (add-one, is-here)
@@ -151,7 +150,7 @@ module _ {old new : List Job} {k : ℕ} {s : JobSet} {last : Job} (r : Joining o
           before = rw (so_far-next old new k here) (sym (last_snoc (so_far old new k) no_job (next_job old new k)));
           rest =
               rw (so_far-next old new k here)
-              (sym (records_passed (so_far old new k) (next_job old new k) (to_come old new (suc k)) (next_is Passed e))
+              (sym (records_passed (so_far old new k) (next_job old new k) (to_come old new (suc k)) (next_is (Ok tt) e))
               ∙ ap (records_check (so_far old new k)) (sym (to_come-next old new k here)) ∙ r.rest);
         })
 
@@ -162,14 +161,14 @@ next-job old new k last j e h is = is ∙ rw (e, job_at_lem new k h)
 
 -- ---- the answer
 module _ (old new : JobSet) where
-  pub join_refused : (x : Refusal) → records_check [] (with_chain (jobs_of old) (jobs_of new)) ≡ Refused x → join_of old new ≡ record { check = Refused x; set = old }
+  pub join_refused : (x : Refusal) → records_check [] (with_chain (jobs_of old) (jobs_of new)) ≡ Err x → join_of old new ≡ Err x
   unfolding join_of join_check
   join_refused x e = rw e
 
-  pub join_empty : records_check [] (with_chain (jobs_of old) (jobs_of new)) ≡ Passed → length (jobs_of new) ≡ 0 → join_of old new ≡ record { check = Refused NoRecord; set = old }
+  pub join_empty : records_check [] (with_chain (jobs_of old) (jobs_of new)) ≡ Ok tt → length (jobs_of new) ≡ 0 → join_of old new ≡ Err NoRecord
   unfolding join_of join_check
   join_empty e h = rw (e, any_none (jobs_of new) h)
 
-  pub join_passed : records_check [] (with_chain (jobs_of old) (jobs_of new)) ≡ Passed → 0 < length (jobs_of new) → join_of old new ≡ record { check = Passed; set = set_of (with_chain (jobs_of old) (jobs_of new)) }
+  pub join_passed : records_check [] (with_chain (jobs_of old) (jobs_of new)) ≡ Ok tt → 0 < length (jobs_of new) → join_of old new ≡ Ok (set_of (with_chain (jobs_of old) (jobs_of new)))
   unfolding join_of join_check
   join_passed e h = rw (e, any_some (jobs_of new) h)

@@ -1,39 +1,48 @@
--- The search for a job by its numbers: none among the first places, one place more, and found. Assumes nothing.
-use Prim.Native.Nat.{ℕ, ◌+◌, ◌<◌, min}
-use mathlib.Core.Bool.{Bool, true, false}
-use mathlib.Core.Path.{◌≡◌, sym, ap, ◌∙◌}
+-- The search for a job by its numbers among the jobs that a set holds. Assumes nothing.
+use Rattle.std.specs.List.{position, position_or_len}
+use Rattle.std.specs.Option.{unwrap_or}
+use Rattle.std.proofs.lemmas.List.Sums.{fails_before_first, passes_at_first}
+use Prim.Native.Nat.{ℕ, min}
+use mathlib.Core.Bool.{Bool}
+use mathlib.Core.List.{List}
+use mathlib.Core.Path.{◌≡◌, sym, ◌∙◌}
 use native.Mathlib.Omega.{arith}
-use lib.ListN.{length, take, get_or}
+use lib.Dec.{ltb}
+use lib.ListN.{length, take}
+use lib.Seq.{ext_get_or, get_or-take, length-take-le}
+use borrow.Author.Tests.{ltb-true, ltb-false}
 use Rattle.laws.specs.Words.{first_below}
-use Rattle.laws.proofs.First.{first_none, first_next, first_found}
+use Rattle.laws.proofs.Tests.{by_test}
+use Rattle.laws.proofs.First.{first_none, first_found}
+use Rattle.jobs.specs.declared.job.Job.{Job}
 use Rattle.jobs.specs.declared.set.JobSet.{JobSet}
 use Rattle.jobs.specs.Limits.{max_jobs}
 use Rattle.jobs.specs.Jobs.{no_job, jobs_of, job_at, is_job, place_in}
 use Rattle.jobs.proofs.Held.{held-length, held_at}
 
-module _ (s : JobSet) (chain number : ℕ) where
-  -- whether the job at a place has the numbers
-  abbrev is_at : ℕ → Bool
-  is_at i = is_job (job_at (take max_jobs (jobs_of s)) i) chain number
+-- what the library's search finds, and the length where it finds none, is the first place below the length at which the test holds
+position_first : (p : Job → Bool) (js : List Job) → unwrap_or (position p js) (length js) ≡ first_below (length js) (λ k. p (job_at js k))
+position_first p js =
+    let n = position_or_len p js in
+    let test : ℕ → Bool = λ k. p (job_at js k) in
+    by_test (ltb n (length js))
+    (λ t.
+    let l = ltb-true n (length js) t in
+    rw t (sym (first_found test (length js) n (first_none test n (λ k h. fails_before_first p js k no_job h)) (passes_at_first p js no_job l) l)))
+    (λ t.
+    let l = ltb-false n (length js) t in
+    rw t (sym (first_none test (length js) (λ k h. fails_before_first p js k no_job (omega arith)))))
 
-  -- none of the first n jobs has them
-  abbrev pub NoneBelow : ℕ → Type 0
-  NoneBelow n = first_below n is_at ≡ n
+-- the jobs that a set holds are those of its first places
+held_list : (s : JobSet) → length s.jobs ≡ max_jobs → take (min s.count max_jobs) s.jobs ≡ take max_jobs (jobs_of s)
+held_list s e =
+    let count = min s.count max_jobs in
+    let l : length (take count s.jobs) ≡ count = length-take-le count s.jobs (omega arith) in
+    ext_get_or no_job (take count s.jobs) (take max_jobs (jobs_of s)) (l ∙ sym (held-length s))
+    (λ i k. get_or-take count s.jobs i no_job (omega arith) ∙ sym (held_at s i (omega arith)))
 
-  pub place_none : NoneBelow 0
-  place_none = first_none is_at 0 (λ i l. absurd (omega arith))
-
-  read_is : (n : ℕ) → n < min s.count max_jobs → is_at n ≡ is_job (get_or s.jobs n no_job) chain number
-  read_is n h = rw (held_at s n h)
-
-  pub place-next : (n : ℕ) → n < min s.count max_jobs → NoneBelow n → is_job (get_or s.jobs n no_job) chain number ≡ false → NoneBelow (n + 1)
-  place-next n h none fails = first_next is_at n none (read_is n h ∙ fails)
-
-  pub place_found : (n : ℕ) → n < min s.count max_jobs → NoneBelow n → is_job (get_or s.jobs n no_job) chain number ≡ true → n ≡ place_in (take max_jobs (jobs_of s)) chain number
-  unfolding place_in
-  place_found n h none holds =
-      sym (first_found is_at (length (take max_jobs (jobs_of s))) n none (read_is n h ∙ holds) (omega (arith, held-length s)))
-
-  pub place_end : (n : ℕ) → n ≡ min s.count max_jobs → NoneBelow n → n ≡ place_in (take max_jobs (jobs_of s)) chain number
-  unfolding place_in
-  place_end n e none = sym (ap (λ (m : ℕ). first_below m is_at) (held-length s ∙ sym e) ∙ none)
+pub place_by : (s : JobSet) (chain number : ℕ) → length s.jobs ≡ max_jobs
+    → unwrap_or (position (λ j. is_job j chain number) (take (min s.count max_jobs) s.jobs)) (min s.count max_jobs) ≡ place_in (take max_jobs (jobs_of s)) chain number
+unfolding place_in
+place_by s chain number e =
+    rw (held_list s e, ← held-length s) (position_first (λ j. is_job j chain number) (take max_jobs (jobs_of s)))

@@ -9,8 +9,7 @@ use lib.ListN.{length}
 use Rattle.laws.specs.Words.{last_of}
 use Rattle.jobs.specs.declared.job.Job.{Job}
 use Rattle.jobs.specs.declared.refusal.Refusal.TheVariants.{TooManyRecords, OutOfOrder, OutOfLimits, PriorityOutOfLimits, LeastOrMostOutOfLimits, LeastAboveMost}
-use Rattle.jobs.specs.declared.refusal.Check.{Check}
-use Rattle.jobs.specs.declared.refusal.Check.TheVariants.{Passed, Refused}
+use Rattle.std.specs.Prelude.{Result, ⊤, Ok, Err}
 use Rattle.jobs.specs.Limits.{max_jobs, max_priority}
 use Rattle.jobs.specs.Refusals.{unless, and_then}
 use Rattle.jobs.specs.Checks.{is_next, in_limits, times_in_limits, values_check, record_check, records_check, any_record, check_of}
@@ -18,25 +17,26 @@ use Rattle.jobs.specs.Claims.{within_limits, plain_check, check_by, as_six}
 use Rattle.jobs.specs.Jobs.{no_job}
 use Rattle.jobs.proofs.Checks.{then_then, next_check}
 use Rattle.jobs.proofs.Limits.{four_as_one}
+use Rattle.jobs.specs.declared.refusal.Refusal.{Refusal}
 
 -- ---- a record
 -- the tests of the values, in their order
 by_values : (a b c d : Bool)
-    → as_six (unless a OutOfLimits (unless b PriorityOutOfLimits (unless c LeastOrMostOutOfLimits (unless d LeastAboveMost Passed))))
-    ≡ unless (a && b && c && d) OutOfLimits Passed
+    → as_six (unless a OutOfLimits (unless b PriorityOutOfLimits (unless c LeastOrMostOutOfLimits (unless d LeastAboveMost (Ok tt)))))
+    ≡ unless (a && b && c && d) OutOfLimits (Ok tt)
 by_values true true true true = refl
 by_values true true true false = refl
 by_values true true false d = refl
 by_values true false c d = refl
 by_values false b c d = refl
 
-values-as_six : (j : Job) → as_six (values_check j) ≡ unless (within_limits j) OutOfLimits Passed
+values-as_six : (j : Job) → as_six (values_check j) ≡ unless (within_limits j) OutOfLimits (Ok tt)
 values-as_six j =
     by_values (in_limits j) (leb j.priority max_priority) (times_in_limits j) (leb j.least j.most)
-    ∙ ap (λ (b : Bool). unless b OutOfLimits Passed) (four_as_one j)
+    ∙ ap (λ (b : Bool). unless b OutOfLimits (Ok tt)) (four_as_one j)
 
 -- the tests before them
-by_place : (a b : Bool) (values : Check)
+by_place : (a b : Bool) (values : Result ⊤ Refusal)
     → as_six (unless a TooManyRecords (unless b OutOfOrder values)) ≡ unless a TooManyRecords (unless b OutOfOrder (as_six values))
 by_place true true values = refl
 by_place true false values = refl
@@ -46,17 +46,17 @@ pub record_as_six : (n : ℕ) (last j : Job) → as_six (record_check n last j) 
 unfolding record_check
 record_as_six n last j =
     by_place (ltb n max_jobs) (is_next n last j) (values_check j)
-    ∙ ap (λ (values : Check). unless (ltb n max_jobs) TooManyRecords (unless (is_next n last j) OutOfOrder values)) (values-as_six j)
+    ∙ ap (λ (values : Result ⊤ Refusal). unless (ltb n max_jobs) TooManyRecords (unless (is_next n last j) OutOfOrder values)) (values-as_six j)
 
 -- a check that passes when read so, passes
-pub six_passed : (check : Check) → as_six check ≡ Passed → check ≡ Passed
-six_passed Passed e = refl
-six_passed (Refused refusal) e = let z : ◌≡◌ {A = ℕ} 0 1 = cc in absurd (omega arith)
+pub six_passed : (check : Result ⊤ Refusal) → as_six check ≡ Ok tt → check ≡ Ok tt
+six_passed (Ok tt) e = refl
+six_passed (Err refusal) e = let z : ◌≡◌ {A = ℕ} 0 1 = cc in absurd (omega arith)
 
 -- ---- a set
-then_six : (a b : Check) → as_six (and_then a b) ≡ and_then (as_six a) (as_six b)
-then_six Passed b = refl
-then_six (Refused refusal) b = refl
+then_six : (a b : Result ⊤ Refusal) → as_six (and_then a b) ≡ and_then (as_six a) (as_six b)
+then_six (Ok tt) b = refl
+then_six (Err refusal) b = refl
 
 any_six : (js : List Job) → as_six (any_record js) ≡ any_record js
 any_six [] = refl

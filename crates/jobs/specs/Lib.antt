@@ -1,5 +1,6 @@
 pub mod Limits
 pub mod Refusals
+pub mod Displays
 pub mod Jobs
 pub mod Checks
 pub mod Joins

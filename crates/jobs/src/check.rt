@@ -4,40 +4,32 @@ ghost use Rattle.jobs.specs.{Jobs.jobs_of, Checks.records_check, Checks.check_of
 
 use crate::job::Job;
 use crate::record::check_record;
-use crate::refusal::{Check, Refusal};
+use crate::refusal::Refusal;
 use crate::set::JobSet;
 
 // The check of each record in turn, the first bad one deciding.
-pub(crate) fn check_records(set: JobSet) -> Check
+pub(crate) fn check_records(set: JobSet) -> Result<(), Refusal>
     ensures { result ≡ records_check [] (jobs_of set) }
 {
     let mut last = Job::none();
-    let count = set.count;
-    let mut n: usize = 0;
-    while n < count {
+    for n in 0..set.count {
         if JobSet::MAX_JOBS <= n {
-            return Check::Refused(Refusal::TooManyRecords);
+            return Err(Refusal::TooManyRecords);
         }
         let job = set.jobs[n];
-        if let Check::Refused(refusal) = check_record(n, last, job) {
-            return Check::Refused(refusal);
-        }
+        check_record(n, last, job)?;
         last = job;
-        n += 1;
     }
-    Check::Passed
+    Ok(())
 }
 
 // The check of a set: the same, then 7.
-pub fn check(set: JobSet) -> Check
+pub fn check(set: JobSet) -> Result<(), Refusal>
     ensures { result ≡ check_of (jobs_of set) }
 {
-    let count = set.count;
-    if let Check::Refused(refusal) = check_records(set) {
-        return Check::Refused(refusal);
+    check_records(set)?;
+    if set.count == 0 {
+        return Err(Refusal::NoRecord);
     }
-    if count == 0 {
-        return Check::Refused(Refusal::NoRecord);
-    }
-    Check::Passed
+    Ok(())
 }

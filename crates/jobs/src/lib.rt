@@ -2,6 +2,7 @@
 #![tactic(auto)]
 
 pub mod check;
+mod display;
 pub mod job;
 pub mod join;
 pub mod last;

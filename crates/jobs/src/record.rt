@@ -3,7 +3,7 @@ ghost use Rattle.std.specs.Prelude.{◌≡◌, ◌+◌, eqb};
 ghost use Rattle.jobs.specs.Checks.{is_next, record_check};
 
 use crate::job::Job;
-use crate::refusal::{Check, Refusal};
+use crate::refusal::Refusal;
 use crate::set::JobSet;
 use crate::values::check_values;
 
@@ -31,14 +31,14 @@ fn is_next(n: usize, last: Job, job: Job) -> bool
 }
 
 // The check of a record that comes after n others, the last of which is last.
-pub fn check_record(n: usize, last: Job, job: Job) -> Check
+pub fn check_record(n: usize, last: Job, job: Job) -> Result<(), Refusal>
     ensures { result ≡ record_check n last job }
 {
     if JobSet::MAX_JOBS <= n {
-        return Check::Refused(Refusal::TooManyRecords);
+        return Err(Refusal::TooManyRecords);
     }
     if !is_next(n, last, job) {
-        return Check::Refused(Refusal::OutOfOrder);
+        return Err(Refusal::OutOfOrder);
     }
     check_values(job)
 }

@@ -2,54 +2,31 @@
 ghost use Rattle.std.specs.Prelude.{◌≡◌};
 ghost use Rattle.jobs.specs.Refusals.{number_of};
 
-#[derive(Clone, Copy)]
+#[derive(Clone, Copy, PartialEq, Eq)]
 pub enum Refusal {
-    TextTooLong,
-    NotHeader,
-    MalformedLine,
-    TooManyRecords,
-    OutOfOrder,
-    OutOfLimits,
-    NoRecord,
-    RunningTimes,
-    ShortBuffer,
-    UnknownAlgorithm,
-    ImpossibleState,
-    PriorityOutOfLimits,
-    LeastOrMostOutOfLimits,
-    LeastAboveMost,
-    MalformedRecording,
-    TooManyRows,
+    TextTooLong = 1,
+    NotHeader = 2,
+    MalformedLine = 3,
+    TooManyRecords = 4,
+    OutOfOrder = 5,
+    OutOfLimits = 6,
+    NoRecord = 7,
+    RunningTimes = 8,
+    ShortBuffer = 9,
+    UnknownAlgorithm = 10,
+    ImpossibleState = 11,
+    PriorityOutOfLimits = 12,
+    LeastOrMostOutOfLimits = 13,
+    LeastAboveMost = 14,
+    MalformedRecording = 15,
+    TooManyRows = 16,
 }
 
 impl Refusal {
+    // By its number C and the texts tell a refusal.
     pub fn number(self) -> u8
         ensures { result ≡ number_of self }
     {
-        match self {
-            Refusal::TextTooLong => 1,
-            Refusal::NotHeader => 2,
-            Refusal::MalformedLine => 3,
-            Refusal::TooManyRecords => 4,
-            Refusal::OutOfOrder => 5,
-            Refusal::OutOfLimits => 6,
-            Refusal::NoRecord => 7,
-            Refusal::RunningTimes => 8,
-            Refusal::ShortBuffer => 9,
-            Refusal::UnknownAlgorithm => 10,
-            Refusal::ImpossibleState => 11,
-            Refusal::PriorityOutOfLimits => 12,
-            Refusal::LeastOrMostOutOfLimits => 13,
-            Refusal::LeastAboveMost => 14,
-            Refusal::MalformedRecording => 15,
-            Refusal::TooManyRows => 16,
-        }
+        self as u8
     }
-}
-
-// What a check comes to.
-#[derive(Clone, Copy)]
-pub enum Check {
-    Passed,
-    Refused(Refusal),
 }

@@ -1,6 +1,7 @@
-// A set of jobs, by value. Places from count on hold no job.
-ghost use Rattle.std.specs.Prelude.{◌≡◌, min, []};
-ghost use Rattle.jobs.specs.{Limits.max_jobs, Jobs.set_of};
+// A set of jobs, by value; the part has no heap, so that its places are an array with a count beside it. Places from count on hold no job, and a set that
+// a caller hands may count more than there are places, which the checks refuse.
+ghost use Rattle.std.specs.Prelude.{◌≡◌, []};
+ghost use Rattle.jobs.specs.Jobs.{set_of};
 
 use crate::job::Job;
 
@@ -24,14 +25,4 @@ impl JobSet {
             count: 0,
         }
     }
-}
-
-// How many records a set has that counts so many: no more than there are places.
-pub(crate) fn held(count: usize) -> usize
-    ensures { result ≡ min count max_jobs }
-{
-    if JobSet::MAX_JOBS < count {
-        return JobSet::MAX_JOBS;
-    }
-    count
 }

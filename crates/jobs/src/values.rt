@@ -3,7 +3,7 @@ ghost use Rattle.std.specs.Prelude.{◌≡◌};
 ghost use Rattle.jobs.specs.Checks.{in_limits, times_in_limits, values_check};
 
 use crate::job::Job;
-use crate::refusal::{Check, Refusal};
+use crate::refusal::Refusal;
 use crate::set::JobSet;
 
 // Whether a job's chain number, release and deadline are within their limits.
@@ -23,7 +23,7 @@ fn times_in_limits(job: Job) -> bool
 }
 
 // The check of a record's values: the first fault in the order of the refusals decides.
-pub(crate) fn check_values(job: Job) -> Check
+pub(crate) fn check_values(job: Job) -> Result<(), Refusal>
     ensures { result ≡ values_check job }
 {
     let limits = in_limits(job);
@@ -31,16 +31,16 @@ pub(crate) fn check_values(job: Job) -> Check
     let times = times_in_limits(job);
     let range = job.least <= job.most;
     if !limits {
-        return Check::Refused(Refusal::OutOfLimits);
+        return Err(Refusal::OutOfLimits);
     }
     if !priority {
-        return Check::Refused(Refusal::PriorityOutOfLimits);
+        return Err(Refusal::PriorityOutOfLimits);
     }
     if !times {
-        return Check::Refused(Refusal::LeastOrMostOutOfLimits);
+        return Err(Refusal::LeastOrMostOutOfLimits);
     }
     if !range {
-        return Check::Refused(Refusal::LeastAboveMost);
+        return Err(Refusal::LeastAboveMost);
     }
-    Check::Passed
+    Ok(())
 }

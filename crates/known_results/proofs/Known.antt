@@ -11,7 +11,7 @@ use lib.IntN.{pos}
 use lib.ListN.{length, get_or}
 use Rattle.laws.specs.Words.{sum_below, tabulate, greatest, last_of, every_below, same_up_to, number_at}
 use Rattle.jobs.specs.declared.job.Job.{Job}
-use Rattle.jobs.specs.declared.refusal.Check.TheVariants.{Passed}
+use Rattle.std.specs.Prelude.{Ok}
 use Rattle.jobs.specs.Checks.{is_next, in_limits, record_check, records_check, check_of}
 use Rattle.jobs.specs.Jobs.{job_at, urgency_of}
 use Rattle.theory.specs.Table.{joined, effective_release, table_of}
@@ -31,7 +31,7 @@ use Rattle.known_results.specs.Cases.{KnownRun, run_with, Known, known_at, Case,
 abbrev run_by : List Job → List ℕ → Carried → KnownRun
 run_by js times c = (times, (tabulate 0 (length js) (λ u. get_or c.state.completions u 0), c.state.time, events (table_of js) (number_at c.state.completions) c.state.time), rows js c.spans)
 
-settled_run : (js : List Job) (r : KnownRun) → machine_check js r.0 ≡ Passed → r.1.1 ≤ last_time
+settled_run : (js : List Job) (r : KnownRun) → machine_check js r.0 ≡ Ok tt → r.1.1 ≤ last_time
     → all_complete r.0 (carried (table_of js) r.0 r.1.1).state.work (length js) ≡ true
     → run_by js r.0 (carried (table_of js) r.0 r.1.1) ≡ r → run_with js r.0 ≡ r
 unfolding run_with
@@ -42,7 +42,7 @@ settled_run js r passed early done known =
 EachSettled : List Job → List KnownRun → Type 0
 EachSettled js [] = Unit {0}
 EachSettled js (r ∷ rs) =
-    (machine_check js r.0 ≡ Passed)
+    (machine_check js r.0 ≡ Ok tt)
     × (r.1.1 ≤ last_time)
     × (all_complete r.0 (carried (table_of js) r.0 r.1.1).state.work (length js) ≡ true)
     × (run_by js r.0 (carried (table_of js) r.0 r.1.1) ≡ r)
@@ -100,7 +100,7 @@ known_results =
     (first_and_rest (figures p8 refl refl refl refl refl refl refl tt)
     (first_and_rest (figures equals_in_order refl refl refl refl refl refl refl (refl, omega arith, refl, refl, tt)) refl)))))))
 
-pub p1_accepted : check_of (jobs_in p1) ≡ Passed
+pub p1_accepted : check_of (jobs_in p1) ≡ Ok tt
 unfolding last_of is_next in_limits record_check records_check check_of
 p1_accepted = refl
 

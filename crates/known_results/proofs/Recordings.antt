@@ -6,7 +6,7 @@ use mathlib.Core.Path.{◌≡◌, refl, sym}
 use mathlib.Core.Bool.{true}
 use mathlib.Core.List.{map}
 use Rattle.laws.specs.Words.{every_below, last_of}
-use Rattle.jobs.specs.declared.refusal.Check.TheVariants.{Passed}
+use Rattle.std.specs.Prelude.{Ok}
 use Rattle.jobs.specs.Checks.{is_next, in_limits, record_check, records_check, check_of}
 use Rattle.jobs.specs.Jobs.{urgency_of}
 use Rattle.theory.specs.Table.{joined, effective_release, table_of}
@@ -17,7 +17,7 @@ use Rattle.legality.proofs.Deciding.{fits_legal}
 use Rattle.known_results.specs.Recordings.{KnownRecording, judged_with, recordings, difference_with, differences}
 use Rattle.known_results.proofs.Known.{first_and_rest}
 
-settled_recording : (k : KnownRecording) → check_of k.0 ≡ Passed → in_order k.1 ≡ true → recording_fits (table_of k.0) k.1 ≡ k.2 → judged_with k ≡ k
+settled_recording : (k : KnownRecording) → check_of k.0 ≡ Ok tt → in_order k.1 ≡ true → recording_fits (table_of k.0) k.1 ≡ k.2 → judged_with k ≡ k
 unfolding judged_with
 settled_recording k passed ordered known = rw (sym (fits_legal k.0 passed k.1 ordered), known)
 

@@ -4,12 +4,12 @@
 use Prim.Native.Nat.{ℕ, ◌≤◌}
 use mathlib.Core.Path.{◌≡◌, refl}
 use mathlib.Core.Bool.{true}
-use mathlib.Core.List.{List, [], ◌∷◌, map}
+use mathlib.Core.List.{map}
 use native.Mathlib.Omega.{arith}
 use lib.ListN.{length}
 use Rattle.laws.specs.Words.{every_below, last_of, tabulate}
 use Rattle.decimal.specs.Digits.{decimal, digits_up_to}
-use Rattle.jobs.specs.declared.refusal.Check.TheVariants.{Passed}
+use Rattle.std.specs.Prelude.{Ok}
 use Rattle.jobs.specs.Checks.{is_next, in_limits, record_check, records_check, check_of}
 use Rattle.jobs.specs.Jobs.{urgency_of}
 use Rattle.theory.specs.Table.{joined, effective_release, table_of}
@@ -23,7 +23,7 @@ use Rattle.dumps.specs.Dumps.{lines_text, declares, header_lines, runs_first, st
 use Rattle.known_results.specs.Waveforms.{KnownWaveform, waveform_with, p4_waveform, p2_waveform, p3_waveform, waveforms}
 use Rattle.known_results.proofs.Known.{first_and_rest}
 
-settled_waveform : (w : KnownWaveform) (end : ℕ) → machine_check w.0 w.1 ≡ Passed → end ≤ last_time
+settled_waveform : (w : KnownWaveform) (end : ℕ) → machine_check w.0 w.1 ≡ Ok tt → end ≤ last_time
     → all_complete w.1 (carried (table_of w.0) w.1 end).state.work (length w.0) ≡ true
     → dump_of w.0 (carried (table_of w.0) w.1 end).spans ≡ w.2
     → waveform_with w ≡ w

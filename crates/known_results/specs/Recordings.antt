@@ -1,7 +1,6 @@
 -- Recordings whose legality is known, worked out by hand from document 02, R-5: the runs of P2 and P3, equals by turns, and faulty ones.
 -- Assumes nothing.
-use Rattle.std.specs.Prelude.{ℕ, Bool, true, false, List, [], ◌∷◌}
-use Rattle.laws.specs.Words.{Option, none, some}
+use Rattle.std.specs.Prelude.{Option, None, Some, ℕ, Bool, true, false, List, [], ◌∷◌}
 use Rattle.jobs.specs.declared.job.Job.{Job}
 use Rattle.theory.specs.Table.{table_of}
 use Rattle.recording.specs.{declared.row.Row.Row, Rows.row}
@@ -60,4 +59,4 @@ difference_with k = (k.0, k.1, first_difference k.0 k.1)
 
 -- The table of differences: by work, by idleness, behind the last row, and none.
 abbrev pub differences : List KnownDifference
-differences = (p2_rows, p3_rows, some 30) ∷ (p3_rows, idle_rows, some 160) ∷ (short_rows, p3_rows, some 160) ∷ (p2_rows, p2_rows, none) ∷ []
+differences = (p2_rows, p3_rows, Some 30) ∷ (p3_rows, idle_rows, Some 160) ∷ (short_rows, p3_rows, Some 160) ∷ (p2_rows, p2_rows, None) ∷ []

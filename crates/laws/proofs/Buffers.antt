@@ -24,6 +24,11 @@ put_rest b at text rest h e =
 head-length : {A : Type 0} (b : List A) (at : ℕ) (text : List A) → at ≤ length b → length (take at b ++ text) ≡ at + length text
 head-length b at text h = length-append (take at b) text ∙ ap (λ (k : ℕ). k + length text) (length-take-le at b h)
 
+-- a text copied over the part of a buffer that is as long
+pub copied-patched : {A : Type 0} (b : List A) (at : ℕ) (text : List A) → put_mid at (at + length text - at) b text ≡ patched b at text
+unfolding patched
+copied-patched b at text = simp (append_assoc, Post-is at (at + length text) b (omega arith))
+
 pub length-patched : {A : Type 0} (b : List A) (at : ℕ) (text : List A) → at + length text ≤ length b → length (patched b at text) ≡ length b
 unfolding patched
 length-patched b at text h =

@@ -3,13 +3,13 @@
 use Prim.Native.Nat.{ℕ, zero, suc, ◌+◌, ◌-◌, ◌≤◌, ◌<◌, min}
 use mathlib.Core.Path.{◌≡◌, refl, sym, ap, ◌∙◌}
 use mathlib.Core.List.{List, [], ◌∷◌, ◌++◌, append-nil}
-use native.Mathlib.Numerals.{add-one}
 use native.Mathlib.Omega.{arith}
 use native.Mathlib.Nat.{add-zero, suc-add}
-use lib.ListN.{length, get_or, take, set, length-append, length-take, length-drop, drop, take-append-drop}
-use lib.Seq.{take_all, take-length, take-nil, take-suc, length-take-le}
+use lib.ListN.{length, take, length-append, length-take, length-drop, drop, take-append-drop}
+use lib.Seq.{take_all, take-length, take-nil, length-take-le}
 use Rattle.laws.specs.Words.{patched, clipped}
-use Rattle.laws.proofs.Buffers.{length-patched, set-patched, Wrote}
+use borrow.Rule.Slice.PartMut.{put_mid}
+use Rattle.laws.proofs.Buffers.{length-patched, copied-patched, Wrote}
 
 pub clipped-length : {A : Type 0} (b : List A) (at : ℕ) (t : List A) → length (clipped b at t) ≡ length b
 unfolding clipped patched
@@ -68,19 +68,14 @@ clipped_part (x ∷ b) zero (y ∷ t) zero h = absurd (omega arith)
 clipped_part (x ∷ b) zero (y ∷ t) (suc n) h =
     rw (clipped-under x b y (take n t), clipped-under x b y t) (ap (λ l. y ∷ l) (clipped_part b 0 t n (omega arith)))
 
--- the first elements of a text stand, and one more is stored
-pub clipped-next : {A : Type 0} (b : List A) (at : ℕ) (t : List A) (n : ℕ) (d : A) → n < length t → at + n < length b
-    → set (clipped b at (take n t)) (at + n) (get_or t n d) ≡ clipped b at (take (n + 1) t)
-clipped-next b at t n d h room =
-    let stands = clipped b at (take n t) in
-    let x = get_or t n d ∷ [] in
-    let inside : at + n < length stands = omega (arith, clipped-length b at (take n t)) in
-    let count : length (take n t) ≡ n = length-take-le n t (omega arith) in
-    set-patched stands (at + n) (get_or t n d) inside
-    ∙ sym (clipped_fits stands (at + n) x (omega arith))
-    ∙ ap (λ (k : ℕ). clipped stands (at + k) x) (sym count)
-    ∙ clipped_more b at (take n t) x
-    ∙ ap (clipped b at) (sym (rw add-one (take-suc t n d h)))
+-- as many elements of a text as fit, copied over the part of the buffer that is as long
+pub clipped-copied : {A : Type 0} (b : List A) (at : ℕ) (t : List A) (n : ℕ) → n ≡ min (length t) (length b - at) → 0 < n → put_mid at (at + n - at) b (take n t) ≡ clipped b at t
+clipped-copied b at t n e h =
+    let long : length (take n t) ≡ n = length-take-le n t (omega (arith, e)) in
+    sym (ap (λ (k : ℕ). put_mid at (at + k - at) b (take n t)) long)
+    ∙ copied-patched b at (take n t)
+    ∙ sym (clipped_fits b at (take n t) (omega (arith, long, e)))
+    ∙ clipped_part b at t n (omega (arith, e))
 
 -- ---- a chain of writers: `after` is `before` with as much of the text from `start` on as fits, and `next` is the place after the text
 pub record Put {A : Type 0} (before : List A) (start : ℕ) (text after : List A) (next : ℕ) : Type 0 where

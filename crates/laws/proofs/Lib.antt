@@ -14,4 +14,3 @@ pub mod Buffers
 pub mod Pieces
 pub mod Clipped
 pub mod ClippedPieces
-pub mod Copies

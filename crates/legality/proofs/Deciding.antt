@@ -14,7 +14,7 @@ use Rattle.laws.proofs.Tests.{by_order, and_parts, and_both, same_test}
 use Rattle.laws.proofs.Every.{every_at, every_all}
 use Rattle.laws.proofs.Tabulate.{length-tabulate, get_d_tabulate}
 use Rattle.jobs.specs.declared.job.Job.{Job}
-use Rattle.jobs.specs.declared.refusal.Check.TheVariants.{Passed}
+use Rattle.std.specs.Prelude.{Ok}
 use Rattle.jobs.specs.Checks.{check_of}
 use Rattle.jobs.proofs.Accepted.{accepted}
 use Rattle.theory.specs.Table.{Table, table_of}
@@ -258,7 +258,7 @@ module _ {t : Table} (well : WellFormed t) (rows : List Row) (h : Rising 0 rows)
   legal_iff = (λ e. found_legal (decided_legal e), legal_decided)
 
 -- ---- of an accepted set
-pub fits_legal : (js : List Job) → check_of js ≡ Passed → (rows : List Row) → in_order rows ≡ true
+pub fits_legal : (js : List Job) → check_of js ≡ Ok tt → (rows : List Row) → in_order rows ≡ true
     → recording_fits (table_of js) rows ≡ legal (table_of js) rows
 fits_legal js passed rows order =
     let well = accepted_well js (accepted js passed) in

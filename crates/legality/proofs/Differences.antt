@@ -1,12 +1,12 @@
 -- The first difference of two recordings with rows in order: their first rows differ there, or it is that of the rest; the two exchanged, and none.
 -- Assumes nothing.
 --   Opened   what order says of a first row and the rest
+use Rattle.std.specs.Prelude.{Option, None, Some}
 use Prim.Native.Nat.{ℕ, ◌≤◌, ◌<◌, min}
 use mathlib.Core.Path.{◌≡◌, refl, sym, ap, subst, ◌∙◌}
 use mathlib.Core.Logic.{◌↔◌, ◌≢◌}
 use mathlib.Core.Bool.{true, false, not, ◌&&◌}
 use mathlib.Core.List.{List, [], ◌∷◌}
-use mathlib.Core.Option.{Option, none, some}
 use native.Mathlib.Omega.{arith}
 use lib.Dec.{eqb, leb}
 use borrow.Author.Tests.{eq-eqb, eqb-true, eqb-false, not-true}
@@ -63,28 +63,28 @@ module _ (r : Row) (rs : List Row) (o : Opened r rs) where
   ends e = stops r rs o.next o.rest (sym (entry-after r rs r.to (omega (arith, o.long)) (omega arith)) ∙ e)
 
 -- ---- two recordings
-pub first_swap : (a b : List Row) (d : ℕ) → FirstAt a b (some d) → FirstAt b a (some d)
+pub first_swap : (a b : List Row) (d : ℕ) → FirstAt a b (Some d) → FirstAt b a (Some d)
 first_swap a b d h = (λ n l. sym (h.0 n l), λ e. h.1 (sym e))
 
 -- one has no row left
-first_alone : (r : Row) (rs : List Row) → Opened r rs → FirstAt (r ∷ rs) [] (some r.from)
+first_alone : (r : Row) (rs : List Row) → Opened r rs → FirstAt (r ∷ rs) [] (Some r.from)
 unfolding row_entry
 first_alone r rs o = (λ n l. quiet r rs o n l, λ e. idle_runs e (begins r rs o))
 
 -- neither has
-first_none : FirstAt [] [] none
+first_none : FirstAt [] [] None
 first_none n = refl
 
 module _ (r s : Row) (rs ss : List Row) (o : Opened r rs) (p : Opened s ss) where
   -- the first begins earlier
-  first_earlier : r.from < s.from → FirstAt (r ∷ rs) (s ∷ ss) (some r.from)
+  first_earlier : r.from < s.from → FirstAt (r ∷ rs) (s ∷ ss) (Some r.from)
   first_earlier l = (
     λ n m. quiet r rs o n m ∙ sym (quiet s ss p n (omega arith)),
     λ e. idle_runs (quiet s ss p r.from l) (sym e ∙ begins r rs o),
   )
 
   -- they begin together, with different jobs
-  first_other : r.from ≡ s.from → r.at ≢ s.at → FirstAt (r ∷ rs) (s ∷ ss) (some r.from)
+  first_other : r.from ≡ s.from → r.at ≢ s.at → FirstAt (r ∷ rs) (s ∷ ss) (Some r.from)
   first_other q ne = (
     λ n m. quiet r rs o n m ∙ sym (quiet s ss p n (omega arith)),
     λ e. ne (same-job (begins r rs o) (e ∙ ap (row_entry (s ∷ ss)) q ∙ begins s ss p)),
@@ -99,7 +99,7 @@ module _ (r s : Row) (rs ss : List Row) (o : Opened r rs) (p : Opened s ss) wher
         (λ a. quiet r rs o n a ∙ sym (quiet s ss p n (omega arith)))
 
     -- and the first ends earlier
-    first_shorter : r.to < s.to → FirstAt (r ∷ rs) (s ∷ ss) (some r.to)
+    first_shorter : r.to < s.to → FirstAt (r ∷ rs) (s ∷ ss) (Some r.to)
     first_shorter l = (
       λ n m. together n m (omega arith),
       λ e. ends r rs o (e ∙ entry_in s ss r.to (omega (arith, o.long)) l ∙ ap runs (sym job)),
@@ -120,18 +120,18 @@ module _ (r s : Row) (rs ss : List Row) (o : Opened r rs) (p : Opened s ss) wher
           (λ l. h (idle_before r.to rs o.rising n l ∙ sym (idle_before s.to ss p.rising n (omega arith))))
 
       first_later : (d : Option ℕ) → FirstAt rs ss d → FirstAt (r ∷ rs) (s ∷ ss) d
-      first_later none h = λ n. same_after n (λ l. h n)
-      first_later (some d) h = (λ n l. same_after n (λ m. h.0 n l), differ_after d h.1)
+      first_later None h = λ n. same_after n (λ l. h n)
+      first_later (Some d) h = (λ n l. same_after n (λ m. h.0 n l), differ_after d h.1)
 
 -- at the earlier of two times
-first_min : (a b : List Row) (x y : ℕ) → (x ≤ y → FirstAt a b (some x)) → (y < x → FirstAt a b (some y)) → FirstAt a b (some (min x y))
+first_min : (a b : List Row) (x y : ℕ) → (x ≤ y → FirstAt a b (Some x)) → (y < x → FirstAt a b (Some y)) → FirstAt a b (Some (min x y))
 first_min a b x y f g =
     by_order x y
     (λ l. let e : min x y ≡ x = omega arith in rw e (f l))
     (λ l. let e : min x y ≡ y = omega arith in rw e (g l))
 
 first_begins : (r s : Row) (rs ss : List Row) → Opened r rs → Opened s ss → eqb r.from s.from && eqb r.at s.at ≡ false
-    → FirstAt (r ∷ rs) (s ∷ ss) (some (min r.from s.from))
+    → FirstAt (r ∷ rs) (s ∷ ss) (Some (min r.from s.from))
 first_begins r s rs ss o p h =
     first_min (r ∷ rs) (s ∷ ss) r.from s.from
     (λ l.
@@ -141,7 +141,7 @@ first_begins r s rs ss o p h =
     (λ l. first_swap (s ∷ ss) (r ∷ rs) s.from (first_earlier s r ss rs p o l))
 
 first_ends : (r s : Row) (rs ss : List Row) → Opened r rs → Opened s ss → r.from ≡ s.from → r.at ≡ s.at → r.to ≢ s.to
-    → FirstAt (r ∷ rs) (s ∷ ss) (some (min r.to s.to))
+    → FirstAt (r ∷ rs) (s ∷ ss) (Some (min r.to s.to))
 first_ends r s rs ss o p q job ne =
     first_min (r ∷ rs) (s ∷ ss) r.to s.to
     (λ l. first_shorter r s rs ss o p q job (omega arith))
@@ -190,12 +190,12 @@ difference_swap (r ∷ rs) (s ∷ ss) =
 
 -- ---- no difference
 module _ (a b : List Row) where
-  same_none : (d : Option ℕ) → FirstAt a b d → ((n : ℕ) → row_entry a n ≡ row_entry b n) → d ≡ none
-  same_none none h same = refl
-  same_none (some d) h same = absurd (h.1 (same d))
+  same_none : (d : Option ℕ) → FirstAt a b d → ((n : ℕ) → row_entry a n ≡ row_entry b n) → d ≡ None
+  same_none None h same = refl
+  same_none (Some d) h same = absurd (h.1 (same d))
 
-  none_same : (d : Option ℕ) → FirstAt a b d → d ≡ none → (n : ℕ) → row_entry a n ≡ row_entry b n
+  none_same : (d : Option ℕ) → FirstAt a b d → d ≡ None → (n : ℕ) → row_entry a n ≡ row_entry b n
   none_same d h e = subst (FirstAt a b) e h
 
-  pub none_iff : FirstAt a b (first_difference a b) → (first_difference a b ≡ none) ↔ ((n : ℕ) → row_entry a n ≡ row_entry b n)
+  pub none_iff : FirstAt a b (first_difference a b) → (first_difference a b ≡ None) ↔ ((n : ℕ) → row_entry a n ≡ row_entry b n)
   none_iff h = (none_same (first_difference a b) h, same_none (first_difference a b) h)

@@ -9,9 +9,9 @@
 --   waiting_in    columns of the time from which each job is ready, its urgency and its end
 --   held_up       a job waits in the gap before a row, or while the row of a less urgent job lasts
 --   rows_fit_in    what is asked of the rows
-use Rattle.std.specs.Prelude.{ℕ, length, ◌≤◌, ◌<◌, max, min, ◌≡◌, Bool, true, not, ◌&&◌, ◌||◌, List, [], ◌∷◌, leb, ltb}
+use Rattle.std.specs.Prelude.{ℕ, length, ◌≤◌, ◌<◌, max, min, ◌≡◌, Bool, true, not, ◌&&◌, ◌||◌, List, [], ◌∷◌, leb, ltb, Ok}
 use Rattle.laws.specs.Words.{tabulate, every_below}
-use Rattle.jobs.specs.{declared.job.Job.Job, declared.refusal.Check.Check, Limits.max_jobs, Jobs.job_at, Jobs.urgency_of, Checks.check_of}
+use Rattle.jobs.specs.{declared.job.Job.Job, Limits.max_jobs, Jobs.job_at, Jobs.urgency_of, Checks.check_of}
 use Rattle.theory.proofs.{Columns.figure, Columns.column, Prior.prior, Predecessors.not_before}
 use Rattle.recording.specs.{declared.row.Row.Row, declared.reading.Recording.Recording}
 use Rattle.recording.proofs.Readable.{Readable}
@@ -23,7 +23,7 @@ column_count = 3
 
 -- What holds of a recording that was read against an accepted set.
 pub record Judged (js : List Job) (recording : Recording) : Type 0 where
-  pub passed : check_of js ≡ Check.Passed
+  pub passed : check_of js ≡ Ok tt
   pub readable : Readable (length js) recording
 
 -- A row of a job that has a place, with a gap before it that begins at a time given.

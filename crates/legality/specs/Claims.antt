@@ -1,7 +1,7 @@
 -- What is proved of recordings; proofs/Claims.antt has the proof of all. Document 02, R-5. Assumes nothing.
-use Rattle.std.specs.Prelude.{ℕ, ◌≤◌, ◌<◌, ◌≡◌, ◌↔◌, true, List}
-use Rattle.laws.specs.Words.{none, number_at}
-use Rattle.jobs.specs.{declared.job.Job.Job, declared.refusal.Check.Check, Checks.check_of}
+use Rattle.std.specs.Prelude.{None, ℕ, ◌≤◌, ◌<◌, ◌≡◌, ◌↔◌, true, List, Ok}
+use Rattle.laws.specs.Words.{number_at}
+use Rattle.jobs.specs.{declared.job.Job.Job, Checks.check_of}
 use Rattle.theory.specs.{Table.Table, Table.table_of, Bounds.ert, Bounds.cja, Bounds.itr}
 use Rattle.recording.specs.{declared.row.Row.Row, Rows.in_order}
 use Rattle.legality.specs.{Recorded.row_entry, Legality.legal, Legality.Legal, Procedure.done, Procedure.recording_fits, Differences.first_difference, Differences.FirstAt}
@@ -21,7 +21,7 @@ pub record Claims (t : Table) (rows : List Row) : Type 0 where
 
 -- They hold of every accepted list of jobs and every recording with rows in order.
 abbrev pub EveryRecording : Type 0
-EveryRecording = (js : List Job) → check_of js ≡ Check.Passed → (rows : List Row) → in_order rows ≡ true → Claims (table_of js) rows
+EveryRecording = (js : List Job) → check_of js ≡ Ok tt → (rows : List Row) → in_order rows ≡ true → Claims (table_of js) rows
 
 -- One field for each theorem on two recordings.
 pub record TwoClaims (a b : List Row) : Type 0 where
@@ -30,7 +30,7 @@ pub record TwoClaims (a b : List Row) : Type 0 where
   -- It is the same with the two exchanged.
   pub exchanged : first_difference b a ≡ first_difference a b
   -- There is none exactly if they show the same at every tick, for ever.
-  pub none_iff : (first_difference a b ≡ none) ↔ ((n : ℕ) → row_entry a n ≡ row_entry b n)
+  pub none_iff : (first_difference a b ≡ None) ↔ ((n : ℕ) → row_entry a n ≡ row_entry b n)
 
 -- They hold of any two recordings with rows in order.
 abbrev pub EveryTwo : Type 0

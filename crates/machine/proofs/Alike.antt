@@ -19,7 +19,6 @@ use Rattle.laws.proofs.Tabulate.{tabulate_ext}
 use Rattle.jobs.specs.Limits.{max_jobs}
 use Rattle.theory.specs.Table.{Table}
 use Rattle.theory.proofs.Columns.{Alike}
-use Rattle.jobs.specs.declared.refusal.Check.TheVariants.{Passed}
 use Rattle.machine.specs.declared.state.State.{State}
 use Rattle.machine.specs.declared.run.Completed.{Completed}
 use Rattle.machine.specs.Ticks.{last_time, all_complete, best_up_to, pick, next}
@@ -30,7 +29,7 @@ use Rattle.machine.proofs.Events.{event_released, event_completed, event_some, e
 
 -- the answer of a run that is not refused
 abbrev pub completed_of : Table → List ℕ → Completed
-completed_of t times = record { check = Passed; completions = completions t times; end = (finish t times).time; steps = steps_of t times }
+completed_of t times = record { completions = completions t times; end = (finish t times).time; steps = steps_of t times }
 
 -- an event of one table is one of the other
 event_carried : {a b : Table} {n : ℕ} → Alike a b n → a.count ≡ n → b.count ≡ n → (f g : ℕ → ℕ) → ((u : ℕ) → u < n → f u ≡ g u)

@@ -1,4 +1,5 @@
 -- The theorems of specs/Claims, for every accepted set and running times in range. Assumes nothing.
+use Rattle.std.specs.Prelude.{Result, Ok}
 use Prim.Native.Nat.{ℕ, zero, suc, ◌*◌, ◌≤◌, ◌<◌}
 use mathlib.Core.Path.{◌≡◌, refl, ap, ◌∙◌}
 use mathlib.Core.Bool.{Bool, true, false, cond}
@@ -12,7 +13,7 @@ use Rattle.laws.proofs.Tests.{by_test, by_order}
 use Rattle.laws.proofs.Sums.{sum_mono}
 use Rattle.laws.proofs.Tabulate.{get_d_tabulate}
 use Rattle.jobs.specs.declared.job.Job.{Job}
-use Rattle.jobs.specs.declared.refusal.Check.TheVariants.{Passed}
+use Rattle.jobs.specs.declared.refusal.Refusal.{Refusal}
 use Rattle.jobs.specs.Limits.{max_jobs}
 use Rattle.theory.specs.Table.{Table, table_of}
 use Rattle.theory.specs.Bounds.{itr}
@@ -49,19 +50,19 @@ ran_not : (js : List Job) (e : Entry) → ran_as js e ≡ Finished → ⊥
 ran_not js idle q = let z : ◌≡◌ {A = ℕ} 0 1 = cc in omega arith
 ran_not js (runs u) q = let z : ◌≡◌ {A = ℕ} 0 1 = cc in omega arith
 
-finished_when : (js : List Job) (times : List ℕ) (s : State) → ((tick_of js times s).ticked ≡ Finished) ↔ (all_complete times s.work (length js) ≡ true)
+finished_when : (js : List Job) (times : List ℕ) (s : State) → ((tick_of js times s).ticked ≡ Ok Finished) ↔ (all_complete times s.work (length js) ≡ true)
 unfolding tick_of
 finished_when js times s = (
   by_all (all_complete times s.work (length js)) (ran_as js (pick (table_of js) times s)) (ran_not js (pick (table_of js) times s)),
   λ h. rw h,
 )
   where
-    by_all : (b : Bool) (other : Ticked) → (other ≡ Finished → ⊥) → cond b Finished other ≡ Finished → b ≡ true
+    by_all : (b : Bool) (other : Ticked) → (other ≡ Finished → ⊥) → ◌≡◌ {A = Result Ticked Refusal} (Ok (cond b Finished other)) (Ok Finished) → b ≡ true
     by_all true other ne q = refl
-    by_all false other ne q = absurd (ne q)
+    by_all false other ne q = absurd (ne (cc q))
 
 -- ---- of the run
-module _ (js : List Job) (times : List ℕ) (passed : machine_check js times ≡ Passed) where
+module _ (js : List Job) (times : List ℕ) (passed : machine_check js times ≡ Ok tt) where
   abbrev t : Table
   t = table_of js
 
@@ -117,7 +118,7 @@ module _ (js : List Job) (times : List ℕ) (passed : machine_check js times ≡
   state_completions : (n u : ℕ) → complete times (number_at (after t times n).work) u ≡ true → number_at (after t times n).completions u ≡ completion t times u n
   state_completions = kept_complete t times last_release now.few now.released
 
-  run_possible : (n : ℕ) → state_check t times (after t times n) ≡ Passed
+  run_possible : (n : ℕ) → state_check t times (after t times n) ≡ Ok tt
   run_possible n =
       let g = goes now n in
       let done : sum_of (after t times n).work (length js) ≤ sum_of times (length js) = sum_mono (length js) (λ i. number_at (after t times n).work i) (λ i. number_at times i) g.within in

@@ -10,9 +10,11 @@ use mathlib.Core.Bool.{true}
 use mathlib.Core.List.{List, []}
 use lib.ListN.{length}
 use Rattle.jobs.specs.declared.job.Job.{Job}
-use Rattle.jobs.specs.declared.refusal.Check.TheVariants.{Passed}
+use Rattle.std.specs.Prelude.{Result, Ok}
+use Rattle.jobs.specs.declared.refusal.Refusal.{Refusal}
 use Rattle.theory.specs.Table.{Table, table_of}
 use Rattle.machine.specs.declared.state.State.{State}
+use Rattle.machine.specs.declared.run.Completed.{Completed}
 use Rattle.machine.specs.declared.trace.Span.{Span}
 use Rattle.machine.specs.Ticks.{last_time, start, all_complete, machine_check, pick, next}
 use Rattle.machine.specs.Runs.{after, entry, run_of, noted, spans, traced}
@@ -50,7 +52,7 @@ module _ (t : Table) (times : List ℕ) where
   carried-spans zero = refl
   carried-spans (suc n) = rw (carried-spans n, carried-entry n)
 
-module _ (js : List Job) (times : List ℕ) (passed : machine_check js times ≡ Passed) where
+module _ (js : List Job) (times : List ℕ) (passed : machine_check js times ≡ Ok tt) where
   abbrev t : Table
   t = table_of js
 
@@ -58,8 +60,8 @@ module _ (js : List Job) (times : List ℕ) (passed : machine_check js times ≡
     settled : all_complete times (after t times n).work (length js) ≡ true
     settled = rw (carried-state t times n) at done
 
-    pub run-carried : run_of js times ≡ answer_by t (carried t times n).state
-    run-carried = run_passed js times passed ∙ completed_settled (runnable js times passed) n settled early ∙ ap (answer_by t) (sym (carried-state t times n))
+    pub run-carried : run_of js times ≡ Ok (answer_by t (carried t times n).state)
+    run-carried = run_passed js times passed ∙ ap (λ (k : Completed). let r : Result Completed Refusal = Ok k in r) (completed_settled (runnable js times passed) n settled early ∙ ap (answer_by t) (sym (carried-state t times n)))
 
     pub trace_carried : traced js times ≡ (carried t times n).spans
     trace_carried = at_limit (spans t times) n (spans_settled t times n settled) early ∙ sym (carried-spans t times n)

@@ -6,7 +6,7 @@
 --   after_leg     the state after so many ticks
 --   entry_leg     what each of them runs
 -- Assumes a table of at most the greatest number of jobs.
-use Prim.Native.Nat.{ℕ, zero, suc, ◌+◌, ◌-◌, ◌≤◌, ◌<◌, min}
+use Prim.Native.Nat.{ℕ, zero, suc, ◌+◌, ◌≤◌, ◌<◌}
 use mathlib.Core.Path.{◌≡◌, refl, sym, ap, ◌∙◌}
 use mathlib.Core.Bool.{Bool, true, false, cond}
 use mathlib.Core.List.{List}
@@ -24,8 +24,6 @@ use Rattle.theory.specs.Table.{Table, joined}
 use Rattle.theory.specs.Runs.{Entry, idle, runs, complete, predecessor_complete, ready}
 use Rattle.theory.proofs.Legal.{ne_complete}
 use Rattle.machine.specs.declared.state.State.{State}
-use Rattle.machine.specs.declared.pick.Best.{Best}
-use Rattle.machine.specs.declared.leg.Leg.{Leg}
 use Rattle.machine.specs.Ticks.{ready_in, best_up_to, pick, all_complete, moved}
 use Rattle.machine.specs.Runs.{after, entry}
 use Rattle.machine.proofs.Ticking.{pick_chosen, pick_open, pick-left, next-moved}
@@ -61,17 +59,6 @@ module _ (t : Table) (times : List ℕ) (s s' : State) (from : s.time ≤ s'.tim
   pub pick_same : pick t times s' ≡ pick t times s
   unfolding pick
   pick_same = rw (best-same t.count (omega arith))
-
--- ---- the leg from a state on, by its best ready job and the next release
--- until the release, or until the job is complete where that comes first
-abbrev pub leg_of : List ℕ → State → Best → ℕ → Leg
-leg_of times s best release =
-    let wait = release - s.time in
-    record {
-      found = best.found;
-      at = best.at;
-      ticks = cond best.found (min wait (get_or times best.at 0 - get_or s.work best.at 0)) wait;
-    }
 
 -- ---- so many ticks with one entry
 -- the state after them, where its job is complete after none of them but the last

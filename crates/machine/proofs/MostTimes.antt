@@ -4,7 +4,7 @@ use mathlib.Core.List.{List}
 use mathlib.Core.Path.{◌≡◌}
 use native.Mathlib.Omega.{arith}
 use Rattle.jobs.specs.declared.job.Job.{Job}
-use Rattle.jobs.specs.declared.refusal.Check.TheVariants.{Passed}
+use Rattle.std.specs.Prelude.{Ok}
 use Rattle.jobs.specs.Jobs.{most_times}
 use Rattle.jobs.specs.Checks.{check_of}
 use Rattle.jobs.proofs.Accepted.{accepted}
@@ -15,7 +15,7 @@ use Rattle.theory.proofs.Legal.{times-to}
 use Rattle.machine.specs.Ticks.{machine_check}
 use Rattle.machine.proofs.RunningTimes.{times_passed}
 
-module _ (js : List Job) (passed : check_of js ≡ Passed) where
+module _ (js : List Job) (passed : check_of js ≡ Ok tt) where
   most_fit : times_fit (table_of js) (most_times js) ≡ true
   most_fit =
       times-to (table_of js) (most_times js)
@@ -25,5 +25,5 @@ module _ (js : List Job) (passed : check_of js ≡ Passed) where
         high = λ i l. omega (arith, most_at_lem js i);
       })
 
-  pub most_passed : machine_check js (most_times js) ≡ Passed
+  pub most_passed : machine_check js (most_times js) ≡ Ok tt
   most_passed = times_passed js (most_times js) most_fit passed

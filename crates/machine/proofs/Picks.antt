@@ -12,6 +12,7 @@ use Rattle.laws.specs.Words.{number_at}
 use Rattle.laws.proofs.Tests.{by_test, by_last, both_ways}
 use Rattle.theory.specs.Table.{Table}
 use Rattle.theory.proofs.Columns.{Alike}
+use Rattle.std.specs.Prelude.{Option, Some, None}
 use Rattle.machine.specs.declared.state.State.{State}
 use Rattle.machine.specs.declared.pick.Best.{Best}
 use Rattle.machine.specs.Order.{rank_of}
@@ -28,18 +29,20 @@ module _ (t : Table) where
       pub is_ready_lem : ready_in t times s u ≡ true
       pub top : (k : ℕ) → k < n → ready_in t times s k ≡ true → (k ≡ u) ⊎ Before t (number_at s.completions) u k
 
-    pub data Picked (n : ℕ) (best : Best) : Type 0 where
-      none : best.found ≡ false → ((k : ℕ) → k < n → ready_in t times s k ≡ false) → Picked n best
-      one : best.found ≡ true → best.rank ≡ rank_of t (number_at s.completions) best.at → Chosen n best.at → Picked n best
+    abbrev pub Picked : ℕ → Option Best → Type 0
+    Picked n None = (k : ℕ) → k < n → ready_in t times s k ≡ false
+    Picked n (Some best) = (best.rank ≡ rank_of t (number_at s.completions) best.at) × Chosen n best.at
 
-    unready : (n : ℕ) → ready_in t times s n ≡ false → (best : Best) → Picked n best → Picked (suc n) best
-    unready n r best (none f h) = none f (λ k l. by_last k n l (λ q. ap (ready_in t times s) q ∙ r) (λ m. h k m))
-    unready n r best (one f e h) =
-        one f e (record {
-          inside = omega (arith, h.inside);
-          is_ready_lem = h.is_ready_lem;
-          top = λ k l g. by_last k n l (λ q. absurd (both_ways g (ap (ready_in t times s) q ∙ r))) (λ m. h.top k m g);
-        })
+    unready : (n : ℕ) → ready_in t times s n ≡ false → (best : Option Best) → Picked n best → Picked (suc n) best
+    unready n r None h = λ k l. by_last k n l (λ q. ap (ready_in t times s) q ∙ r) (λ m. h k m)
+    unready n r (Some best) (e, h) = (
+      e,
+      record {
+        inside = omega (arith, h.inside);
+        is_ready_lem = h.is_ready_lem;
+        top = λ k l g. by_last k n l (λ q. absurd (both_ways g (ap (ready_in t times s) q ∙ r))) (λ m. h.top k m g);
+      },
+    )
 
     only : (n : ℕ) → ready_in t times s n ≡ true → ((k : ℕ) → k < n → ready_in t times s k ≡ false) → Chosen (suc n) n
     only n r h = record { inside = omega arith; is_ready_lem = r; top = λ k l g. by_last k n l (λ q. inl q) (λ m. absurd (both_ways g (h k m))) }
@@ -63,31 +66,27 @@ module _ (t : Table) where
           top = λ k l q. by_last k n l (λ e. rw e (inr (inr (g, h.inside)))) (λ m. h.top k m q);
         }
 
-    ready_next : (n : ℕ) → ready_in t times s n ≡ true → (best : Best) → Picked n best → Picked (suc n) (better best n (rank_of t (number_at s.completions) n))
+    ready_next : (n : ℕ) → ready_in t times s n ≡ true → (best : Option Best) → Picked n best → Picked (suc n) (Some (better best n (rank_of t (number_at s.completions) n)))
     unfolding better goes_first
-    ready_next n r best (none f h) = rw f (one refl refl (only n r h))
-    ready_next n r best (one f e h) =
+    ready_next n r None h = (refl, only n r h)
+    ready_next n r (Some best) (e, h) =
         by_test (goes_first t (number_at s.completions) n best.at)
-        (λ g. rw (f, e, g) (one refl refl (taken n best.at r h g)))
-        (λ g. rw (f, e, g) (one refl refl (kept n best.at h g)))
+        (λ g. rw (e, g) (refl, taken n best.at r h g))
+        (λ g. rw (e, g) (refl, kept n best.at h g))
 
     pub picked_up_to : (n : ℕ) → Picked n (best_up_to t times s n)
     unfolding best_up_to
-    picked_up_to zero = none refl (λ k l. absurd (omega arith))
+    picked_up_to zero = λ k l. absurd (omega arith)
     picked_up_to (suc n) =
         by_test (ready_in t times s n)
         (λ r. rw r (ready_next n r (best_up_to t times s n) (picked_up_to n)))
         (λ r. rw r (unready n r (best_up_to t times s n) (picked_up_to n)))
 
-pub best_inside : (t : Table) (times : List ℕ) (s : State) (n : ℕ) (best : Best) → best ≡ best_up_to t times s n → best.found ≡ true → best.at < n
-best_inside t times s n best e f = by_picked (subst (Picked t times s n) (sym e) (picked_up_to t times s n))
-  where
-    by_picked : Picked t times s n best → best.at < n
-    by_picked (none g h) = absurd (both_ways f g)
-    by_picked (one g h chosen) = chosen.inside
+pub best_inside : (t : Table) (times : List ℕ) (s : State) (n : ℕ) (best : Best) → Some best ≡ best_up_to t times s n → best.at < n
+best_inside t times s n best e = (subst (Picked t times s n) (sym e) (picked_up_to t times s n)).1.inside
 
-pub best_step : (t : Table) (times : List ℕ) (s : State) (best : Best) (u : ℕ) → best ≡ best_up_to t times s u
-    → cond (ready_in t times s u) (better best u (rank_of t (number_at s.completions) u)) best ≡ best_up_to t times s (u + 1)
+pub best_step : (t : Table) (times : List ℕ) (s : State) (best : Option Best) (u : ℕ) → best ≡ best_up_to t times s u
+    → cond (ready_in t times s u) (Some (better best u (rank_of t (number_at s.completions) u))) best ≡ best_up_to t times s (u + 1)
 unfolding best_up_to
 best_step t times s best u e = rw (add-one, e)
 

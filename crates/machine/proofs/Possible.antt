@@ -12,7 +12,7 @@ use borrow.Author.Tests.{le-leb, lt-ltb}
 use Rattle.laws.specs.Words.{number_at}
 use Rattle.laws.proofs.Tests.{by_test, by_equal}
 use Rattle.laws.proofs.Every.{every_all}
-use Rattle.jobs.specs.declared.refusal.Check.TheVariants.{Passed}
+use Rattle.std.specs.Prelude.{Ok}
 use Rattle.jobs.specs.Limits.{max_jobs}
 use Rattle.theory.specs.Table.{Table}
 use Rattle.theory.specs.Runs.{Entry, idle, runs, complete, predecessor_complete}
@@ -121,7 +121,7 @@ module _ (t : Table) (times : List ℕ) where
           rw (c, lt-ltb (t.earliest u) (get_or now.completions u 0) ((sound n).ended u l c), le-leb (get_or now.completions u 0) now.time ((going t times R few released n).past u)))
           (λ c. rw c)
 
-      pub state_possible : state_check t times now ≡ Passed
+      pub state_possible : state_check t times now ≡ Ok tt
       unfolding state_check possible
       state_possible =
           rw (le-leb now.time last_time early, every_all (possible t times now) t.count (λ u l. rw (work_possible_lem u l, completion_possible_lem u l)))

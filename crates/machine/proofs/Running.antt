@@ -22,10 +22,11 @@ use Rattle.theory.specs.Runs.{Entry, idle, runs, complete}
 use Rattle.theory.proofs.Legal.{eq_complete}
 use Rattle.theory.proofs.Columns.{seen, shown}
 use Rattle.theory.proofs.NextRelease.{next_release, next-after, next_le, next-same}
+use Rattle.std.specs.Prelude.{Option, Some, None}
 use Rattle.machine.specs.declared.state.State.{State}
 use Rattle.machine.specs.declared.pick.Best.{Best}
 use Rattle.machine.specs.declared.leg.Leg.{Leg}
-use Rattle.machine.specs.Ticks.{last_time, all_complete, best_up_to, pick}
+use Rattle.machine.specs.Ticks.{last_time, all_complete, best_up_to, entry_by, pick}
 use Rattle.machine.specs.Runs.{after, entry, completion, finish, completions}
 use Rattle.theory.proofs.Runnable.{last_release, Runnable}
 use Rattle.machine.proofs.Readiness.{state_of}
@@ -34,7 +35,8 @@ use Rattle.machine.proofs.Picks.{best_alike}
 use Rattle.machine.proofs.Ticking.{pick_chosen}
 use Rattle.machine.proofs.Course.{all_sum, sum_all, none_done, after_settled, Going, runs_left}
 use Rattle.machine.proofs.Completions.{completion_settled, kept_all}
-use Rattle.machine.proofs.Legs.{Left, left_part, entry_leg, after_leg, moved_by, leg_of}
+use Rattle.machine.specs.Legs.{leg_of}
+use Rattle.machine.proofs.Legs.{Left, left_part, entry_leg, after_leg, moved_by}
 use Rattle.machine.proofs.Runnable.{work_limit, goes}
 
 -- ---- what further ticks leave as it is, at the limit on times
@@ -146,6 +148,19 @@ module _ {t : Table} {times : List ℕ} (r : Runnable t times) where
       reached_completions = ap (λ (s : State). s.completions) (sym h.here) ∙ settled_completions time reached_settled reached_limit
 
 -- ---- a turn of the loop
+-- what a leg runs, and for how many ticks
+abbrev entry_at : Option ℕ → Entry
+entry_at None = idle
+entry_at (Some at) = runs at
+
+abbrev ticks_of : List ℕ → State → Option ℕ → ℕ → ℕ
+ticks_of times s None release = release - s.time
+ticks_of times s (Some at) release = min (release - s.time) (get_or times at 0 - get_or s.work at 0)
+
+pub by_at : {X : Type 0} (at : Option ℕ) → ((u : ℕ) → at ≡ Some u → X) → (at ≡ None → X) → X
+by_at None some none = none refl
+by_at (Some u) some none = some u refl
+
 -- the best of the jobs that columns show
 pub best-shown : (count : ℕ) (columns : List (List ℕ)) (times : List ℕ) (s : State) → best_up_to (seen columns) times s count ≡ best_up_to (shown count columns) times s count
 best-shown count columns times s = best_alike {n = count} (record { chain = λ i l. refl; urgency = λ i l. refl; release = λ i l. refl }) times s count (omega arith)
@@ -157,33 +172,30 @@ pub record Turn (t : Table) (times work completed : List ℕ) (left time release
   pub worked_out : leg ≡ leg_of times (state_of time work completed) (best_up_to t times (state_of time work completed) t.count) release
 
 -- the turn at whose head the run is reached, and whose leg is worked out by the columns
-pub turn_shown : (count : ℕ) (columns : List (List ℕ)) {times work completed : List ℕ} {left time release : ℕ} {leg : Leg} → Runnable (shown count columns) times
-    → Reached (shown count columns) times work completed left time release → 0 < left
-    → leg ≡ leg_of times (state_of time work completed) (best_up_to (seen columns) times (state_of time work completed) count) release
-    → Turn (shown count columns) times work completed left time release leg
-turn_shown count columns {times} {work} {completed} {left} {time} {release} {leg} r h more e =
+pub turn_shown : (columns : List (List ℕ)) {times work completed : List ℕ} {left time release : ℕ} {leg : Leg} → Runnable (shown (length times) columns) times
+    → Reached (shown (length times) columns) times work completed left time release → 0 < left
+    → leg ≡ leg_of times (state_of time work completed) (best_up_to (seen columns) times (state_of time work completed) (length times)) release
+    → Turn (shown (length times) columns) times work completed left time release leg
+turn_shown columns {times} {work} {completed} {left} {time} {release} {leg} r h more e =
     record {
       runnable = r;
       reached = h;
       more = more;
-      worked_out = e ∙ ap (λ (best : Best). leg_of times (state_of time work completed) best release) (best-shown count columns times (state_of time work completed));
+      worked_out = e ∙ ap (λ (best : Option Best). leg_of times (state_of time work completed) best release) (best-shown (length times) columns times (state_of time work completed));
     }
 
 module _ {t : Table} {times work completed : List ℕ} {left time release : ℕ} {leg : Leg} (turn : Turn t times work completed left time release leg) where
   abbrev state : State
   state = state_of time work completed
 
-  abbrev best : Best
-  best = best_up_to t times state t.count
-
-  found_is : leg.found ≡ best.found
-  found_is = ap (λ (l : Leg). l.found) turn.worked_out
-
-  at_is : leg.at ≡ best.at
-  at_is = ap (λ (l : Leg). l.at) turn.worked_out
-
-  ticks_are : leg.ticks ≡ cond best.found (min (release - time) (get_or times best.at 0 - get_or work best.at 0)) (release - time)
-  ticks_are = ap (λ (l : Leg). l.ticks) turn.worked_out
+  -- the leg goes on with what is picked
+  picks : (pick t times state ≡ entry_at leg.at) × (leg.ticks ≡ ticks_of times state leg.at release)
+  unfolding pick
+  picks = by_best (best_up_to t times state t.count) turn.worked_out
+    where
+      by_best : (best : Option Best) → leg ≡ leg_of times state best release → (entry_by best ≡ entry_at leg.at) × (leg.ticks ≡ ticks_of times state leg.at release)
+      by_best None e = rw e (refl, refl)
+      by_best (Some best) e = rw e (refl, refl)
 
   wait : time < release
   wait = reached_wait turn.runnable turn.reached turn.more
@@ -192,19 +204,18 @@ module _ {t : Table} {times work completed : List ℕ} {left time release : ℕ}
   turn_early = reached_early turn.runnable turn.reached turn.more
 
   -- a job runs
-  module _ (f : leg.found ≡ true) where
-    found_ticks : leg.ticks ≡ min (release - time) (get_or times leg.at 0 - get_or work leg.at 0)
-    found_ticks = ticks_are ∙ rw (sym found_is ∙ f, at_is)
+  module _ {at : ℕ} (f : leg.at ≡ Some at) where
+    found_ticks : leg.ticks ≡ min (release - time) (get_or times at 0 - get_or work at 0)
+    found_ticks = picks.1 ∙ ap (λ (at : Option ℕ). ticks_of times state at release) f
 
-    found : pick t times state ≡ runs leg.at
-    unfolding pick
-    found = rw (sym found_is ∙ f, at_is)
+    found : pick t times state ≡ runs at
+    found = picks.0 ∙ ap entry_at f
 
-    pub turn_inside : leg.at < t.count
-    turn_inside = (pick_chosen t times state leg.at found).inside
+    pub turn_inside : at < t.count
+    turn_inside = (pick_chosen t times state at found).inside
 
-    has_work : get_or work leg.at 0 < get_or times leg.at 0
-    has_work = runs_left t times last_release turn.runnable.few turn.runnable.released state leg.at found (reached_within turn.runnable turn.reached)
+    has_work : get_or work at 0 < get_or times at 0
+    has_work = runs_left t times last_release turn.runnable.few turn.runnable.released state at found (reached_within turn.runnable turn.reached)
 
     some : 0 < leg.ticks
     some = omega (arith, found_ticks, wait, has_work)
@@ -212,35 +223,34 @@ module _ {t : Table} {times work completed : List ℕ} {left time release : ℕ}
     until : time + leg.ticks ≤ release
     until = omega (arith, found_ticks, wait)
 
-    enough : get_or work leg.at 0 + leg.ticks ≤ get_or times leg.at 0
+    enough : get_or work at 0 + leg.ticks ≤ get_or times at 0
     enough = omega (arith, found_ticks, has_work)
 
     -- what the work on the job asks for, and the state after it
-    pub turn_works : (leg.at < max_jobs) × (leg.at < length times) × (get_or work leg.at 0 + leg.ticks ≤ max_time) × (time ≤ last_time)
+    pub turn_works : (at < max_jobs) × (at < length times) × (get_or work at 0 + leg.ticks ≤ max_time)
     turn_works = (
       omega (arith, turn_inside, turn.runnable.few),
       omega (arith, turn_inside, turn.runnable.each),
-      omega (arith, enough, turn.runnable.brief leg.at turn_inside),
-      omega (arith, turn_early),
+      omega (arith, enough, turn.runnable.brief at turn_inside),
     )
 
     abbrev ran : State
-    ran = moved_by times leg.ticks (runs leg.at) state
+    ran = moved_by times leg.ticks (runs at) state
 
     ran-after : after t times (time + leg.ticks) ≡ ran
-    ran-after = leg_after turn.runnable turn.reached turn.more (runs leg.at) found leg.ticks some until enough
+    ran-after = leg_after turn.runnable turn.reached turn.more (runs at) found leg.ticks some until enough
 
     ran-course : Going t times last_release turn.runnable.few turn.runnable.released (time + leg.ticks) ran
     ran-course = rw ran-after at (goes turn.runnable (time + leg.ticks))
 
-    ran-work : get_or ran.work leg.at 0 ≡ get_or work leg.at 0 + leg.ticks
-    ran-work = get_or-set_same work leg.at (get_or work leg.at 0 + leg.ticks) 0 (omega (arith, turn_inside, turn.runnable.few, (course turn.runnable turn.reached).long))
+    ran-work : get_or ran.work at 0 ≡ get_or work at 0 + leg.ticks
+    ran-work = get_or-set_same work at (get_or work at 0 + leg.ticks) 0 (omega (arith, turn_inside, turn.runnable.few, (course turn.runnable turn.reached).long))
 
     more_work : sum_of ran.work t.count ≡ sum_of work t.count + leg.ticks
     more_work =
-        sum_bump t.count (λ i. get_or work i 0) (λ i. get_or ran.work i 0) leg.at leg.ticks turn_inside
+        sum_bump t.count (λ i. get_or work i 0) (λ i. get_or ran.work i 0) at leg.ticks turn_inside
         ran-work
-        (λ i l ne. get_or-set_other work leg.at i (get_or work leg.at 0 + leg.ticks) 0 ne)
+        (λ i l ne. get_or-set_other work at i (get_or work at 0 + leg.ticks) 0 ne)
 
     pub turn_left : leg.ticks ≤ left
     turn_left = omega (arith, turn.reached.rest, more_work, sum_mono t.count (λ i. get_or ran.work i 0) (λ i. get_or times i 0) ran-course.within)
@@ -251,24 +261,23 @@ module _ {t : Table} {times work completed : List ℕ} {left time release : ℕ}
           here = ran-after;
           rest = omega (arith, turn.reached.rest, more_work, turn_left);
           early = ran-course.early;
-          next = leg_release turn.runnable turn.reached turn.more (runs leg.at) found leg.ticks some until enough;
+          next = leg_release turn.runnable turn.reached turn.more (runs at) found leg.ticks some until enough;
         }
 
     -- it has all its work done in the end
-    pub ran-complete : get_or work leg.at 0 + leg.ticks ≡ get_or times leg.at 0 → complete times (number_at (after t times (time + leg.ticks)).work) leg.at ≡ true
-    ran-complete all = rw ran-after (eq_complete times (number_at ran.work) leg.at (ran-work ∙ all))
+    pub ran-complete : get_or work at 0 + leg.ticks ≡ get_or times at 0 → complete times (number_at (after t times (time + leg.ticks)).work) at ≡ true
+    ran-complete all = rw ran-after (eq_complete times (number_at ran.work) at (ran-work ∙ all))
 
-    pub ran_entries : (k : ℕ) → time ≤ k → k < time + leg.ticks → entry t times k ≡ runs leg.at
-    ran_entries = leg_entries turn.runnable turn.reached turn.more (runs leg.at) found leg.ticks some until enough
+    pub ran_entries : (k : ℕ) → time ≤ k → k < time + leg.ticks → entry t times k ≡ runs at
+    ran_entries = leg_entries turn.runnable turn.reached turn.more (runs at) found leg.ticks some until enough
 
   -- none runs
-  module _ (f : leg.found ≡ false) where
+  module _ (f : leg.at ≡ None) where
     pub idle_ticks : time + leg.ticks ≡ release
-    idle_ticks = let e : leg.ticks ≡ release - time = ticks_are ∙ rw (sym found_is ∙ f) in omega (arith, e, wait)
+    idle_ticks = let e : leg.ticks ≡ release - time = picks.1 ∙ ap (λ (at : Option ℕ). ticks_of times state at release) f in omega (arith, e, wait)
 
     none_picked : pick t times state ≡ idle
-    unfolding pick
-    none_picked = rw (sym found_is ∙ f)
+    none_picked = picks.0 ∙ ap entry_at f
 
     idle_some : 0 < leg.ticks
     idle_some = omega (arith, idle_ticks, wait)
@@ -292,26 +301,26 @@ module _ {t : Table} {times work completed : List ℕ} {left time release : ℕ}
   pub turn_apart : (u : ℕ) → u < t.count → time < t.earliest u → time + leg.ticks ≤ t.earliest u
   turn_apart u l later =
       let next = next_le last_time t.earliest time t.count u l later in
-      by_test leg.found
-      (λ f. omega (arith, until f, turn.reached.next))
+      by_at leg.at
+      (λ at f. omega (arith, until f, turn.reached.next))
       (λ f. omega (arith, idle_ticks f, turn.reached.next))
 
   pub turn_some : 0 < leg.ticks
-  turn_some = by_test leg.found (λ f. some f) (λ f. idle_some f)
+  turn_some = by_at leg.at (λ at f. some f) (λ f. idle_some f)
 
   -- a leg ends before the limit on times
   pub turn_limit : time + leg.ticks < last_time
   turn_limit =
-      by_test leg.found
-      (λ f. omega (arith, (turn_ran f).early, (turn_ran f).rest, work_limit turn.runnable))
+      by_at leg.at
+      (λ at f. omega (arith, (turn_ran f).early, (turn_ran f).rest, work_limit turn.runnable))
       (λ f. omega (arith, (turn_idle f).early, (turn_idle f).rest, work_limit turn.runnable))
 
   -- it ends with the next release, or with its job complete
-  pub turn_ends : (time + leg.ticks ≡ release) ⊎ ((leg.found ≡ true) × (get_or work leg.at 0 + leg.ticks ≡ get_or times leg.at 0))
+  pub turn_ends : (time + leg.ticks ≡ release) ⊎ ((at : ℕ) × (leg.at ≡ Some at) × (get_or work at 0 + leg.ticks ≡ get_or times at 0))
   turn_ends =
-      by_test leg.found
-      (λ f.
-      by_order (release - time) (get_or times leg.at 0 - get_or work leg.at 0)
+      by_at leg.at
+      (λ at f.
+      by_order (release - time) (get_or times at 0 - get_or work at 0)
       (λ l. inl (omega (arith, found_ticks f, wait)))
-      (λ l. inr (f, omega (arith, found_ticks f, has_work f))))
+      (λ l. inr (at, f, omega (arith, found_ticks f, has_work f))))
       (λ f. inl (idle_ticks f))

@@ -11,12 +11,12 @@ use lib.ListN.{length, get_or}
 use borrow.Author.Tests.{le-leb, lt-leb, eq-eqb, ne_eqb}
 use Rattle.laws.specs.Words.{sum_below, every_below, number_at}
 use Rattle.laws.proofs.Tests.{and_both}
+use Rattle.std.specs.Prelude.{zero, suc, sum, ◌∷◌, Result, ⊤, Ok, Err}
+use Rattle.std.proofs.lemmas.List.Recursion.{is_sum_by}
 use Rattle.laws.proofs.Sums.{sum_const}
 use Rattle.jobs.specs.declared.job.Job.{Job}
 use Rattle.jobs.specs.declared.set.JobSet.{JobSet}
 use Rattle.jobs.specs.declared.refusal.Refusal.TheVariants.{RunningTimes}
-use Rattle.jobs.specs.declared.refusal.Check.{Check}
-use Rattle.jobs.specs.declared.refusal.Check.TheVariants.{Passed, Refused}
 use Rattle.jobs.specs.Limits.{max_jobs, max_time}
 use Rattle.jobs.specs.Refusals.{unless, and_then}
 use Rattle.jobs.specs.Jobs.{no_job, jobs_of, job_at}
@@ -28,6 +28,7 @@ use Rattle.theory.specs.Runs.{times_fit}
 use Rattle.theory.proofs.Legal.{Times, times_from}
 use Rattle.laws.proofs.Every.{every_not}
 use Rattle.machine.specs.Ticks.{machine_check}
+use Rattle.jobs.specs.declared.refusal.Refusal.{Refusal}
 
 -- ---- sums
 abbrev pub sum_of : List ℕ → ℕ → ℕ
@@ -40,6 +41,16 @@ sum_none numbers = refl
 pub sum_next : (numbers : List ℕ) (n sum : ℕ) → sum ≡ sum_of numbers n → sum + get_or numbers n 0 ≡ sum_of numbers (n + 1)
 unfolding sum_below
 sum_next numbers n sum e = rw (add-one, e)
+
+sum_first : (f : ℕ → ℕ) (n : ℕ) → sum_below (suc n) f ≡ f 0 + sum_below n (λ i. f (suc i))
+unfolding sum_below
+sum_first f zero = omega arith
+sum_first f (suc n) = omega (arith, sum_first f n)
+
+-- a list's sum is that of its places
+pub sum_whole : (numbers : List ℕ) → sum_of numbers (length numbers) ≡ sum numbers
+unfolding sum_below
+sum_whole numbers = is_sum_by (λ (xs : List ℕ). sum_of xs (length xs)) (λ x. x) refl (λ x xs. sum_first (λ i. get_or (x ∷ xs) i 0) (length xs)) numbers
 
 pub sum_limit : (times : List ℕ) → ((i : ℕ) → i < length times → get_or times i 0 ≤ max_time) → (n : ℕ) → n ≤ length times → sum_of times n ≤ n * max_time
 sum_limit times each n l = sum_const n max_time (λ i. get_or times i 0) (λ i m. each i (omega arith))
@@ -88,26 +99,26 @@ module _ (set : JobSet) (times : List ℕ) where
 
 -- ---- what has passed
 module _ (js : List Job) (times : List ℕ) where
-  pub times_refused : times_fit (table_of js) times ≡ false → check_of js ≡ Passed → machine_check js times ≡ Refused RunningTimes
+  pub times_refused : times_fit (table_of js) times ≡ false → check_of js ≡ Ok tt → machine_check js times ≡ Err RunningTimes
   unfolding machine_check
   times_refused e p = rw (p, e)
 
-  pub times_passed : times_fit (table_of js) times ≡ true → check_of js ≡ Passed → machine_check js times ≡ Passed
+  pub times_passed : times_fit (table_of js) times ≡ true → check_of js ≡ Ok tt → machine_check js times ≡ Ok tt
   unfolding machine_check
   times_passed e p = rw (p, e)
 
-  pub set_refused : (c : Check) → check_of js ≡ c → (r : _) → c ≡ Refused r → machine_check js times ≡ Refused r
+  pub set_refused : (c : Result ⊤ Refusal) → check_of js ≡ c → (r : _) → c ≡ Err r → machine_check js times ≡ Err r
   unfolding machine_check
   set_refused c e r f = rw (e, f)
 
-  module _ (passed : machine_check js times ≡ Passed) where
-    pub set_passed : check_of js ≡ Passed
+  module _ (passed : machine_check js times ≡ Ok tt) where
+    pub set_passed : check_of js ≡ Ok tt
     unfolding machine_check
     set_passed = by_check (check_of js) refl passed
       where
-        by_check : (c : Check) → check_of js ≡ c → and_then c (unless (times_fit (table_of js) times) RunningTimes Passed) ≡ Passed → check_of js ≡ Passed
-        by_check Passed e h = e
-        by_check (Refused r) e h = e ∙ h
+        by_check : (c : Result ⊤ Refusal) → check_of js ≡ c → and_then c (unless (times_fit (table_of js) times) RunningTimes (Ok tt)) ≡ Ok tt → check_of js ≡ Ok tt
+        by_check (Ok tt) e h = e
+        by_check (Err r) e h = e ∙ h
 
     pub set_accepted : Accepted js
     set_accepted = accepted js set_passed
@@ -116,7 +127,7 @@ module _ (js : List Job) (times : List ℕ) where
     unfolding machine_check
     times_fit_lem = by_fit (times_fit (table_of js) times) refl (rw set_passed at passed)
       where
-        by_fit : (b : Bool) → times_fit (table_of js) times ≡ b → unless b RunningTimes Passed ≡ Passed → times_fit (table_of js) times ≡ true
+        by_fit : (b : Bool) → times_fit (table_of js) times ≡ b → unless b RunningTimes (Ok tt) ≡ Ok tt → times_fit (table_of js) times ≡ true
         by_fit true e h = e
         by_fit false e h = let z : ◌≡◌ {A = ℕ} 0 1 = cc in absurd (omega arith)
 

@@ -14,7 +14,7 @@ use lib.ListN.{get_or}
 use Rattle.laws.specs.Words.{number_at}
 use Rattle.laws.proofs.Tests.{by_test, by_order}
 use Rattle.laws.proofs.Every.{every_at}
-use Rattle.jobs.specs.declared.refusal.Check.TheVariants.{Passed}
+use Rattle.std.specs.Prelude.{Some}
 use Rattle.jobs.specs.Limits.{max_jobs}
 use Rattle.theory.specs.Table.{Table}
 use Rattle.theory.specs.Runs.{Entry, idle, runs, complete}
@@ -33,7 +33,7 @@ use Rattle.machine.proofs.Possible.{complete_released}
 use Rattle.machine.proofs.Alike.{events_alike, completed_of}
 use Rattle.machine.proofs.Events.{no_event, event_released, event_completed, event_some, events_none, events_leg, events_past, events_few}
 use Rattle.machine.proofs.Runnable.{goes, run-complete, run_early}
-use Rattle.machine.proofs.Running.{at_limit, settled_completions, Reached, reached_finish, Turn, turn_inside, turn_some, turn_apart, turn_limit, turn_ends, ran-complete, ran_entries, idle_entries}
+use Rattle.machine.proofs.Running.{by_at, at_limit, settled_completions, Reached, reached_finish, Turn, turn_inside, turn_some, turn_apart, turn_limit, turn_ends, ran-complete, ran_entries, idle_entries}
 
 -- each job's completion in the whole run
 abbrev pub done : Table → List ℕ → ℕ → ℕ
@@ -49,7 +49,7 @@ counted_start t times = record { are = sym (events_none t (done t times)); few =
 -- ---- the end of the run
 -- the answer, by the state that the run comes to
 abbrev pub answer_by : Table → State → Completed
-answer_by t s = record { check = Passed; completions = s.completions; end = s.time; steps = events t (number_at s.completions) s.time }
+answer_by t s = record { completions = s.completions; end = s.time; steps = events t (number_at s.completions) s.time }
 
 module _ {t : Table} {times : List ℕ} (r : Runnable t times) where
   each-complete : (u : ℕ) → u < t.count → complete times (number_at (finish t times).work) u ≡ true
@@ -111,8 +111,8 @@ module _ {t : Table} {times work completed : List ℕ} {left time release : ℕ}
 
   completes_late : (u : ℕ) → time < done t times u → to ≤ done t times u
   completes_late =
-      by_test leg.found
-      (λ f. none_completes t times time to (runs leg.at) (ran_entries turn f) (turn_limit turn))
+      by_at leg.at
+      (λ at f. none_completes t times time to (runs at) (ran_entries turn f) (turn_limit turn))
       (λ f. none_completes t times time to idle (idle_entries turn f) (turn_limit turn))
 
   none_within : (k : ℕ) → time < k → k < to → is_event t (done t times) k ≡ false
@@ -129,23 +129,23 @@ module _ {t : Table} {times work completed : List ℕ} {left time release : ℕ}
       by_next (inl q) = absurd (omega (arith, e, q, turn.reached.next, turn_limit turn))
       by_next (inr w) = event_released t (done t times) to w.0 w.1 (w.2 ∙ sym turn.reached.next ∙ sym e)
 
-  module _ (f : leg.found ≡ true) (all : get_or work leg.at 0 + leg.ticks ≡ get_or times leg.at 0) where
+  module _ {at : ℕ} (f : leg.at ≡ Some at) (all : get_or work at 0 + leg.ticks ≡ get_or times at 0) where
     -- the last tick of the leg is the job's last
-    done_then : done t times leg.at ≡ to
+    done_then : done t times at ≡ to
     done_then =
         let last : to ≡ suc (to - 1) = omega (arith, turn_some turn) in
-        let ran : entry t times (to - 1) ≡ runs leg.at = ran_entries turn f (to - 1) (omega (arith, turn_some turn)) (omega (arith, turn_some turn)) in
-        at_limit (completion t times leg.at) to (completion_fixed t times leg.at to (ran-complete turn f all)) (omega (arith, turn_limit turn))
-        ∙ ap (completion t times leg.at) last
-        ∙ completion_named t times leg.at (to - 1) ran
+        let ran : entry t times (to - 1) ≡ runs at = ran_entries turn f (to - 1) (omega (arith, turn_some turn)) (omega (arith, turn_some turn)) in
+        at_limit (completion t times at) to (completion_fixed t times at to (ran-complete turn f all)) (omega (arith, turn_limit turn))
+        ∙ ap (completion t times at) last
+        ∙ completion_named t times at (to - 1) ran
         ∙ sym last
 
     ends_completed : is_event t (done t times) to ≡ true
-    ends_completed = event_completed t (done t times) to leg.at (turn_inside turn f) done_then
+    ends_completed = event_completed t (done t times) to at (turn_inside turn f) done_then
 
-  ends : (to ≡ release) ⊎ ((leg.found ≡ true) × (get_or work leg.at 0 + leg.ticks ≡ get_or times leg.at 0)) → is_event t (done t times) to ≡ true
+  ends : (to ≡ release) ⊎ ((at : ℕ) × (leg.at ≡ Some at) × (get_or work at 0 + leg.ticks ≡ get_or times at 0)) → is_event t (done t times) to ≡ true
   ends (inl e) = ends-released e
-  ends (inr w) = ends_completed w.0 w.1
+  ends (inr w) = ends_completed w.1 w.2
 
   pub counted_next : {steps : ℕ} → Counted t times steps time → Counted t times (steps + 1) to
   counted_next c =

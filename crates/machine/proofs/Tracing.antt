@@ -2,6 +2,7 @@
 -- itself a runnable table.
 --   Stored    what one more leg makes of the entries
 --   Written   what holds at the head of the loop
+use Rattle.std.specs.Prelude.{Ok, Err}
 use Prim.Native.Nat.{ℕ, zero, suc, ◌+◌, ◌-◌, ◌*◌, ◌≤◌, ◌<◌}
 use mathlib.Core.Path.{◌≡◌, refl, sym, ap, subst, ◌∙◌}
 use mathlib.Core.Bool.{true, false, cond, ◌&&◌}
@@ -19,14 +20,12 @@ use Rattle.laws.proofs.Buffers.{patched_more, length-patched}
 use Rattle.jobs.specs.declared.job.Job.{Job}
 use Rattle.jobs.specs.declared.refusal.Refusal.{Refusal}
 use Rattle.jobs.specs.declared.refusal.Refusal.TheVariants.{ShortBuffer}
-use Rattle.jobs.specs.declared.refusal.Check.TheVariants.{Passed, Refused}
 use Rattle.jobs.specs.Limits.{max_jobs}
 use Rattle.jobs.specs.Jobs.{job_at}
 use Rattle.theory.specs.Table.{Table, table_of}
 use Rattle.theory.specs.Runs.{idle, runs}
 use Rattle.machine.specs.declared.trace.Span.{Span}
 use Rattle.machine.specs.declared.trace.Put.{Put}
-use Rattle.machine.specs.declared.trace.Traced.TheVariants.{Entries, Refused as RefusedTrace}
 use Rattle.machine.specs.Ticks.{last_time, all_complete, machine_check}
 use Rattle.machine.specs.Runs.{after, entry, steps_of, noted, spans, row, rows, trace_check, traced, trace_of, traced_in}
 use Rattle.theory.proofs.Runnable.{last_release, Runnable}
@@ -276,21 +275,21 @@ module _ (js : List Job) {t : Table} {times before : List ℕ} where
 
 -- ---- the checks
 module _ (js : List Job) (times buffer : List ℕ) where
-  pub trace_refused : (r : Refusal) → machine_check js times ≡ Refused r → (trace_of js times (length buffer) ≡ RefusedTrace r) × (traced_in js times buffer ≡ buffer)
+  pub trace_refused : (r : Refusal) → machine_check js times ≡ Err r → (trace_of js times (length buffer) ≡ Err r) × (traced_in js times buffer ≡ buffer)
   unfolding trace_of traced_in trace_check
   trace_refused r e = (rw e, rw e)
 
-  module _ (passed : machine_check js times ≡ Passed) where
-    pub trace_short : length buffer < 8 * length js → (trace_of js times (length buffer) ≡ RefusedTrace ShortBuffer) × (traced_in js times buffer ≡ buffer)
+  module _ (passed : machine_check js times ≡ Ok tt) where
+    pub trace_short : length buffer < 8 * length js → (trace_of js times (length buffer) ≡ Err ShortBuffer) × (traced_in js times buffer ≡ buffer)
     unfolding trace_of traced_in trace_check
     trace_short l = (rw (passed, lt-leb (8 * length js) (length buffer) l), rw (passed, lt-leb (8 * length js) (length buffer) l))
 
     pub trace_written : 8 * length js ≤ length buffer
-        → (trace_of js times (length buffer) ≡ Entries (length (traced js times)) (steps_of (table_of js) times)) × (traced_in js times buffer ≡ patched buffer 0 (rows js (traced js times)))
+        → (trace_of js times (length buffer) ≡ Ok (record { entries = length (traced js times); steps = steps_of (table_of js) times })) × (traced_in js times buffer ≡ patched buffer 0 (rows js (traced js times)))
     unfolding trace_of traced_in trace_check
     trace_written l = (rw (passed, le-leb (8 * length js) (length buffer) l), rw (passed, le-leb (8 * length js) (length buffer) l))
 
-pub traced-length : (js : List Job) (times buffer : List ℕ) → machine_check js times ≡ Passed → 8 * length js ≤ length buffer
+pub traced-length : (js : List Job) (times buffer : List ℕ) → machine_check js times ≡ Ok tt → 8 * length js ≤ length buffer
     → length (patched buffer 0 (rows js (traced js times))) ≡ length buffer
 traced-length js times buffer passed room =
     let r = runnable js times passed in

@@ -1,4 +1,5 @@
 -- Completions of jobs that are not complete, and what stands beyond the table, are not read. Assumes a set that fits its places.
+use Rattle.std.specs.Prelude.{Result, Ok, Err, ⊤}
 use Prim.Native.Nat.{ℕ, zero, suc, ◌+◌, ◌≤◌, ◌<◌}
 use mathlib.Core.Path.{◌≡◌, refl, sym, ap, ◌∙◌}
 use mathlib.Core.Bool.{true}
@@ -9,21 +10,19 @@ use Rattle.laws.specs.Words.{number_at}
 use Rattle.laws.proofs.Tests.{by_test, by_equal}
 use Rattle.laws.proofs.Every.{every_ext}
 use Rattle.jobs.specs.declared.job.Job.{Job}
-use Rattle.jobs.specs.declared.refusal.Check.{Check}
-use Rattle.jobs.specs.declared.refusal.Check.TheVariants.{Passed, Refused}
 use Rattle.jobs.specs.Refusals.{on_pass, and_then}
 use Rattle.jobs.specs.Limits.{max_jobs}
 use Rattle.theory.specs.Table.{Table, table_of}
 use Rattle.theory.specs.Runs.{Entry, idle, runs, complete, predecessor_complete, ready}
 use Rattle.theory.proofs.Legal.{ready_parts, complete_eq}
 use Rattle.machine.specs.declared.state.State.{State}
-use Rattle.machine.specs.declared.step.Ticked.TheVariants.{Refused as RefusedTick}
 use Rattle.machine.specs.Order.{ready_since}
 use Rattle.machine.specs.Ticks.{all_complete, ready_in, best_up_to, pick, moved, next, tick_of, machine_check, work_possible, completion_possible, possible, state_check, step_of}
 use Rattle.machine.specs.Claims.{SameRead}
 use Rattle.machine.proofs.Readiness.{worked_here, worked_other, complete_other, noted_here, noted_other}
 use Rattle.machine.proofs.Since.{since_kept}
 use Rattle.machine.proofs.Ticking.{pick_chosen, next-moved, next_stays}
+use Rattle.jobs.specs.declared.refusal.Refusal.{Refusal}
 
 module _ (js : List Job) (times : List ℕ) (few : length js ≤ max_jobs) (s other : State) (r : SameRead js times s other) where
   abbrev t : Table
@@ -80,10 +79,10 @@ module _ (js : List Job) (times : List ℕ) (few : length js ≤ max_jobs) (s ot
   unfolding step_of tick_of
   ticked_same = rw check_same (by_check (and_then (machine_check js times) (state_check t times s)))
     where
-      by_check : (c : Check) → (on_pass c (λ refusal. record { ticked = RefusedTick refusal; state = other }) (tick_of js times other)).ticked
-          ≡ (on_pass c (λ refusal. record { ticked = RefusedTick refusal; state = s }) (tick_of js times s)).ticked
-      by_check Passed = rw (all_same, pick_same)
-      by_check (Refused n) = refl
+      by_check : (c : Result ⊤ Refusal) → (on_pass c (λ refusal. record { ticked = Err refusal; state = other }) (tick_of js times other)).ticked
+          ≡ (on_pass c (λ refusal. record { ticked = Err refusal; state = s }) (tick_of js times s)).ticked
+      by_check (Ok tt) = rw (all_same, pick_same)
+      by_check (Err n) = refl
 
   -- ---- the states after a tick in which the job at k runs
   module _ (k : ℕ) (q : pick t times s ≡ runs k) where
@@ -148,11 +147,11 @@ module _ (js : List Job) (times : List ℕ) (few : length js ≤ max_jobs) (s ot
   unfolding step_of tick_of
   same_step = rw check_same (by_check (and_then (machine_check js times) (state_check t times s)))
     where
-      by_check : (c : Check) → SameRead js times
-          (on_pass c (λ refusal. record { ticked = RefusedTick refusal; state = s }) (tick_of js times s)).state
-          (on_pass c (λ refusal. record { ticked = RefusedTick refusal; state = other }) (tick_of js times other)).state
-      by_check Passed = same_next
-      by_check (Refused n) = r
+      by_check : (c : Result ⊤ Refusal) → SameRead js times
+          (on_pass c (λ refusal. record { ticked = Err refusal; state = s }) (tick_of js times s)).state
+          (on_pass c (λ refusal. record { ticked = Err refusal; state = other }) (tick_of js times other)).state
+      by_check (Ok tt) = same_next
+      by_check (Err n) = r
 
   pub entries_unread : ((step_of js times other).ticked ≡ (step_of js times s).ticked) × SameRead js times (step_of js times s).state (step_of js times other).state
   entries_unread = (ticked_same, same_step)

@@ -1,5 +1,6 @@
 -- What a tick writes: into the completions its own end where it completes a job, and nothing else; no work beyond the table. Assumes a set that fits its
 -- places.
+use Rattle.std.specs.Prelude.{Result, Ok, Err, ⊤}
 use Prim.Native.Nat.{ℕ, ◌+◌, ◌≤◌, ◌<◌}
 use mathlib.Core.Path.{◌≡◌, refl, sym, ap, ◌∙◌}
 use mathlib.Core.List.{List}
@@ -8,19 +9,17 @@ use lib.ListN.{length, get_or}
 use Rattle.laws.specs.Words.{number_at}
 use Rattle.laws.proofs.Tests.{by_test, by_equal, both_ways}
 use Rattle.jobs.specs.declared.job.Job.{Job}
-use Rattle.jobs.specs.declared.refusal.Check.{Check}
-use Rattle.jobs.specs.declared.refusal.Check.TheVariants.{Passed, Refused}
 use Rattle.jobs.specs.Refusals.{on_pass, and_then}
 use Rattle.jobs.specs.Limits.{max_jobs}
 use Rattle.theory.specs.Table.{table_of}
 use Rattle.theory.specs.Runs.{Entry, idle, runs, complete}
 use Rattle.theory.proofs.Legal.{complete_eq, eq_complete}
 use Rattle.machine.specs.declared.state.State.{State}
-use Rattle.machine.specs.declared.step.Ticked.TheVariants.{Refused as RefusedTick}
 use Rattle.machine.specs.Ticks.{all_complete, pick, moved, next, machine_check, state_check, tick_of, step_of}
 use Rattle.machine.specs.Claims.{Whole, Completes}
 use Rattle.machine.proofs.Readiness.{worked_here, worked_other, complete_other, noted_here, noted_open, noted_other}
 use Rattle.machine.proofs.Ticking.{pick_chosen, pick_open, next-moved, next_stays}
+use Rattle.jobs.specs.declared.refusal.Refusal.{Refusal}
 
 -- ---- a tick in which the job at k runs
 module _ (js : List Job) (times : List ℕ) (few : length js ≤ max_jobs) (s : State) (whole : Whole s) (k : ℕ) (q : pick (table_of js) times s ≡ runs k) where
@@ -66,9 +65,9 @@ module _ (js : List Job) (times : List ℕ) (s : State) (P : State → Type 0) (
   unfolding step_of tick_of
   by_step = by_check (and_then (machine_check js times) (state_check (table_of js) times s))
     where
-      by_check : (c : Check) → P (on_pass c (λ refusal. record { ticked = RefusedTick refusal; state = s }) (tick_of js times s)).state
-      by_check Passed = by_next
-      by_check (Refused r) = stays
+      by_check : (c : Result ⊤ Refusal) → P (on_pass c (λ refusal. record { ticked = Err refusal; state = s }) (tick_of js times s)).state
+      by_check (Ok tt) = by_next
+      by_check (Err r) = stays
 
 module _ (js : List Job) (times : List ℕ) (few : length js ≤ max_jobs) (s : State) (whole : Whole s) where
   pub completion_written : (u : ℕ) → Completes js times s (step_of js times s).state u → number_at (step_of js times s).state.completions u ≡ s.time + 1

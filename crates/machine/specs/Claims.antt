@@ -1,7 +1,7 @@
 -- What is proved of the machine for accepted sets and running times in range; proofs/Claims has the proof of all. Assumes nothing.
-use Rattle.std.specs.Prelude.{ℕ, suc, ◌+◌, ◌*◌, ◌≤◌, ◌<◌, ◌≡◌, ◌↔◌, ◌⊎◌, true, false, cond, ◌&&◌, List, [], ◌∷◌, leb, ltb, length}
+use Rattle.std.specs.Prelude.{Ok, ℕ, suc, ◌+◌, ◌*◌, ◌≤◌, ◌<◌, ◌≡◌, ◌↔◌, ◌⊎◌, true, false, cond, ◌&&◌, List, [], ◌∷◌, leb, ltb, length}
 use Rattle.laws.specs.Words.{number_at, tabulate}
-use Rattle.jobs.specs.declared.{job.Job.Job, refusal.Check.Check}
+use Rattle.jobs.specs.declared.{job.Job.Job}
 use Rattle.jobs.specs.Limits.{max_jobs}
 use Rattle.theory.specs.{Table.table_of, Bounds.itr, Runs.Entry, Runs.idle, Runs.runs, Runs.complete, Runs.is_run}
 use Rattle.machine.specs.declared.{state.State.State, step.Ticked.Ticked, trace.Span.Span}
@@ -35,7 +35,7 @@ pub record Claims (js : List Job) (times : List ℕ) : Type 0 where
   -- The run ends before the limit on times, with all jobs complete.
   pub run_ends : ((finish (table_of js) times).time < last_time) × (all_complete times (finish (table_of js) times).work (length js) ≡ true)
   -- A tick says "finished" exactly when all jobs are complete, in any state.
-  pub finished_when : (s : State) → ((tick_of js times s).ticked ≡ Ticked.Finished) ↔ (all_complete times s.work (length js) ≡ true)
+  pub finished_when : (s : State) → ((tick_of js times s).ticked ≡ Ok Ticked.Finished) ↔ (all_complete times s.work (length js) ≡ true)
   -- The entries of the machine's first n ticks are a run of demand 3, for every n, with the effective releases.
   pub machine_legal : (n : ℕ) → is_run (table_of js) (table_of js).earliest times (tabulate 0 n (entry (table_of js) times)) ≡ true
   -- Each completion is at or before its ITR bound.
@@ -59,7 +59,7 @@ pub record Claims (js : List Job) (times : List ℕ) : Type 0 where
   pub state_completions : (n u : ℕ) → complete times (number_at (after (table_of js) times n).work) u ≡ true
       → number_at (after (table_of js) times n).completions u ≡ completion (table_of js) times u n
   -- No state of the run is refused with 11.
-  pub run_possible : (n : ℕ) → state_check (table_of js) times (after (table_of js) times n) ≡ Check.Passed
+  pub run_possible : (n : ℕ) → state_check (table_of js) times (after (table_of js) times n) ≡ Ok tt
   -- The trace, read as spans, gives back the entries tick for tick.
   pub trace_gives_back : (n : ℕ) → n < last_time → span_entry (traced js times) n ≡ entry (table_of js) times n
   -- The trace has at most twice as many entries as there are jobs.
@@ -71,4 +71,4 @@ pub record Claims (js : List Job) (times : List ℕ) : Type 0 where
 
 -- They hold of every set and running times that pass the checks 4 to 8.
 abbrev pub EveryMachine : Type 0
-EveryMachine = (js : List Job) (times : List ℕ) → machine_check js times ≡ Check.Passed → Claims js times
+EveryMachine = (js : List Job) (times : List ℕ) → machine_check js times ≡ Ok tt → Claims js times

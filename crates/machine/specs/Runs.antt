@@ -1,7 +1,7 @@
 -- The run from time 0, its steps from event to event, and its trace. Document 01, "The machine", and number 9; document 02, R-7. Assumes nothing.
-use Rattle.std.specs.Prelude.{ℕ, zero, suc, ◌*◌, cond, ◌&&◌, List, [], ◌∷◌, ◌++◌, leb, eqb, length, replicate}
+use Rattle.std.specs.Prelude.{Result, Ok, Err, ℕ, zero, suc, ◌*◌, cond, ◌&&◌, List, [], ◌∷◌, ◌++◌, leb, eqb, length, ⊤}
 use Rattle.laws.specs.Words.{tabulate, patched}
-use Rattle.jobs.specs.declared.{job.Job.Job, refusal.Refusal.Refusal, refusal.Check.Check}
+use Rattle.jobs.specs.declared.{job.Job.Job, refusal.Refusal.Refusal}
 use Rattle.jobs.specs.{Limits.max_jobs, Refusals.on_pass, Refusals.unless, Refusals.and_then, Jobs.job_at}
 use Rattle.theory.specs.{Table.Table, Table.table_of, Runs.Entry, Runs.names, Runs.idle, Runs.runs}
 use Rattle.machine.specs.declared.{state.State.State, run.Completed.Completed, trace.Span.Span, trace.Traced.Traced}
@@ -35,16 +35,11 @@ completions t times = tabulate 0 max_jobs (λ u. completion t times u last_time)
 abbrev pub steps_of : Table → List ℕ → ℕ
 steps_of t times = events t (λ u. completion t times u last_time) last_time
 
--- The answer of a run: each job's completion, the time at which all are complete and the steps from event to event, or the refusal with all figures 0.
-unfoldable pub run_of : List Job → List ℕ → Completed
+-- The answer of a run: each job's completion, the time at which all are complete and the steps from event to event, or the refusal.
+unfoldable pub run_of : List Job → List ℕ → Result Completed Refusal
 run_of js times =
-    let check = machine_check js times in
-    record {
-      check = check;
-      completions = on_pass check (λ refusal. replicate max_jobs 0) (completions (table_of js) times);
-      end = on_pass check (λ refusal. 0) (finish (table_of js) times).time;
-      steps = on_pass check (λ refusal. 0) (steps_of (table_of js) times);
-    }
+    on_pass (machine_check js times) Err
+    (Ok (record { completions = completions (table_of js) times; end = (finish (table_of js) times).time; steps = steps_of (table_of js) times }))
 
 -- Spans, the latest first, after tick n: the job that ran lengthens the latest where that is its own and ends at n, or begins a new one.
 unfoldable pub noted : List Span → ℕ → Entry → List Span
@@ -70,16 +65,16 @@ rows js [] = []
 rows js (s ∷ ss) = rows js ss ++ row js s
 
 -- Numbers 4 to 8, then 9: a buffer has to hold twice as many entries as there are jobs, of four numbers each.
-unfoldable pub trace_check : List Job → List ℕ → ℕ → Check
-trace_check js times room = and_then (machine_check js times) (unless (leb (8 * length js) room) Refusal.ShortBuffer Check.Passed)
+unfoldable pub trace_check : List Job → List ℕ → ℕ → Result ⊤ Refusal
+trace_check js times room = and_then (machine_check js times) (unless (leb (8 * length js) room) Refusal.ShortBuffer (Ok tt))
 
 -- The spans of the whole run.
 abbrev pub traced : List Job → List ℕ → List Span
 traced js times = spans (table_of js) times last_time
 
 -- The answer of a trace: how many entries it has and the steps of its run, or the refusal.
-unfoldable pub trace_of : List Job → List ℕ → ℕ → Traced
-trace_of js times room = on_pass (trace_check js times room) Traced.Refused (Traced.Entries (length (traced js times)) (steps_of (table_of js) times))
+unfoldable pub trace_of : List Job → List ℕ → ℕ → Result Traced Refusal
+trace_of js times room = on_pass (trace_check js times room) Err (Ok (record { entries = length (traced js times); steps = steps_of (table_of js) times }))
 
 -- What a trace leaves in the lent buffer: its rows from the start on and what it held beyond, or on a refusal all as it was.
 unfoldable pub traced_in : List Job → List ℕ → List ℕ → List ℕ

@@ -1,7 +1,7 @@
 -- The machine's state, the job that it picks, and one tick. Document 01, "The machine" and numbers 4 to 8 and 11. Assumes nothing.
-use Rattle.std.specs.Prelude.{ℕ, zero, suc, ◌+◌, Bool, true, false, cond, not, ◌&&◌, ◌||◌, List, leb, ltb, eqb, set, replicate}
+use Rattle.std.specs.Prelude.{Option, Some, None, ℕ, zero, suc, ◌+◌, Bool, cond, not, ◌&&◌, ◌||◌, List, leb, ltb, eqb, set, replicate, Result, Ok, Err, ⊤}
 use Rattle.laws.specs.Words.{number_at, every_below}
-use Rattle.jobs.specs.declared.{job.Job.Job, refusal.Refusal.Refusal, refusal.Check.Check}
+use Rattle.jobs.specs.declared.{job.Job.Job, refusal.Refusal.Refusal}
 use Rattle.jobs.specs.{Limits.max_jobs, Refusals.unless, Refusals.and_then, Checks.check_of, Jobs.job_at, Refusals.on_pass}
 use Rattle.theory.specs.{Table.Table, Table.table_of, Runs.complete, Runs.ready, Runs.times_fit, Runs.Entry, Runs.idle, Runs.runs, Runs.predecessor_complete}
 use Rattle.machine.specs.{declared.state.State.State, declared.rank.Rank.Rank, declared.pick.Best.Best, declared.step.Ticked.Ticked, declared.step.Stepped.Stepped, Order.rank_of, Order.outranks}
@@ -22,25 +22,26 @@ all_complete times work n = every_below n (complete times (number_at work))
 abbrev pub ready_in : Table → List ℕ → State → ℕ → Bool
 ready_in t times s = ready t t.earliest times (number_at s.work) s.time
 
--- The best so far after a ready job of this rank at u: that job, where it is the first or goes before the best.
-unfoldable pub better : Best → ℕ → Rank → Best
-better best u rank =
-    cond (not best.found || outranks rank best.rank)
-    (record { found = true; at = u; rank = rank })
-    best
+-- The better of the best so far and a ready job of this rank at u: that job, where it is the first or goes before the best.
+unfoldable pub better : Option Best → ℕ → Rank → Best
+better None u rank = record { at = u; rank = rank }
+better (Some best) u rank = cond (outranks rank best.rank) (record { at = u; rank = rank }) best
 
--- The best of the first n jobs, of those that are ready; all 0 where none is.
-unfoldable pub best_up_to : Table → List ℕ → State → ℕ → Best
-best_up_to t times s zero = record { found = false; at = 0; rank = record { urgency = 0; since = 0; chain = 0 } }
+-- The best of the first n jobs, of those that are ready, where one is.
+unfoldable pub best_up_to : Table → List ℕ → State → ℕ → Option Best
+best_up_to t times s zero = None
 best_up_to t times s (suc u) =
     let best = best_up_to t times s u in
-    cond (ready_in t times s u) (better best u (rank_of t (number_at s.completions) u)) best
+    cond (ready_in t times s u) (Some (better best u (rank_of t (number_at s.completions) u))) best
+
+-- What a tick runs by the best: that job, idle where there is none.
+abbrev pub entry_by : Option Best → Entry
+entry_by None = idle
+entry_by (Some best) = runs best.at
 
 -- What runs of all jobs, idle where none is ready: the entry of a state's next tick.
 unfoldable pub pick : Table → List ℕ → State → Entry
-pick t times s =
-    let best = best_up_to t times s t.count in
-    cond best.found (runs best.at) idle
+pick t times s = entry_by (best_up_to t times s t.count)
 
 -- The state after a tick with this entry: the time goes up by 1, and so does the work of the job that ran; where that makes it complete, the time is its
 -- completion.
@@ -68,13 +69,13 @@ unfoldable pub tick_of : List Job → List ℕ → State → Stepped
 tick_of js times s =
     let t = table_of js in
     record {
-      ticked = cond (all_complete times s.work t.count) Ticked.Finished (ran_as js (pick t times s));
+      ticked = Ok (cond (all_complete times s.work t.count) Ticked.Finished (ran_as js (pick t times s)));
       state = next t times s;
     }
 
 -- What the machine's operations check of a set and its running times: the refusals of the set, then 8.
-unfoldable pub machine_check : List Job → List ℕ → Check
-machine_check js times = and_then (check_of js) (unless (times_fit (table_of js) times) Refusal.RunningTimes Check.Passed)
+unfoldable pub machine_check : List Job → List ℕ → Result ⊤ Refusal
+machine_check js times = and_then (check_of js) (unless (times_fit (table_of js) times) Refusal.RunningTimes (Ok tt))
 
 -- A job has no more work than its running time, and work only with its predecessor complete and at a time after its release.
 unfoldable pub work_possible : Table → List ℕ → (ℕ → ℕ) → ℕ → ℕ → Bool
@@ -94,11 +95,11 @@ possible t times s u =
     && completion_possible t times (number_at s.work) (number_at s.completions) s.time u
 
 -- Number 11: the time is beyond its limit, or the work or completion of some job is not possible.
-unfoldable pub state_check : Table → List ℕ → State → Check
-state_check t times s = unless (leb s.time last_time && every_below t.count (possible t times s)) Refusal.ImpossibleState Check.Passed
+unfoldable pub state_check : Table → List ℕ → State → Result ⊤ Refusal
+state_check t times s = unless (leb s.time last_time && every_below t.count (possible t times s)) Refusal.ImpossibleState (Ok tt)
 
 -- The answer and the state after a tick, or the refusal, of the set, then 8, then 11, and the state as it was.
 unfoldable pub step_of : List Job → List ℕ → State → Stepped
 step_of js times s =
     let check = and_then (machine_check js times) (state_check (table_of js) times s) in
-    on_pass check (λ refusal. record { ticked = Ticked.Refused refusal; state = s }) (tick_of js times s)
+    on_pass check (λ refusal. record { ticked = Err refusal; state = s }) (tick_of js times s)

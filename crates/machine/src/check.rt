@@ -1,104 +1,63 @@
 // The check of a state, refusal 11, after those of the set and its running times.
 ghost use Rattle.std.specs.Prelude.{◌≡◌, ◌<◌, ◌≤◌, length};
 ghost use Rattle.laws.specs.Words.{number_at, every_below};
-ghost use Rattle.jobs.specs.{Limits.max_jobs, Jobs.jobs_of};
-ghost use Rattle.theory.specs.Table.{table_of};
-ghost use Rattle.theory.proofs.Columns.{seen, Alike};
-ghost use Rattle.machine.specs.Ticks.{machine_check, work_possible, completion_possible, possible, state_check};
+ghost use Rattle.theory.proofs.Columns.{seen, shown};
+ghost use Rattle.machine.specs.Ticks.{work_possible, completion_possible, possible, state_check};
 
-use crate::columns::{Columns, RELEASE, figure};
-use crate::ready::{is_complete, is_predecessor_complete};
+use crate::columns::RELEASE;
 use crate::state::State;
-use jobs::refusal::{Check, Refusal};
-use jobs::set::JobSet;
+use crate::timed::TimedJobs;
+use jobs::refusal::Refusal;
 
-// Whether the work of one job is possible at this time.
-fn is_work_possible<'a, 'b>(
-    at: usize,
-    columns: &'a Columns,
-    times: &'a [u64],
-    work: &'b [u64; JobSet::MAX_JOBS],
-    time: u64,
-) -> bool
-    requires { (at < max_jobs) × (at < length times.now) }
-    ensures { result ≡ work_possible (seen columns.now) times.now (number_at work.now) time at }
-{
-    if times[at] < work[at] {
-        return false;
+impl<'a> TimedJobs<'a> {
+    // Whether the work of one job is possible at this time.
+    #[tactic(auto, unfolding(crate::specs::Ticks::work_possible))]
+    fn is_work_possible(self, at: usize, state: &State) -> bool
+        requires { at < length self.times.now }
+        ensures { result ≡ work_possible (seen self.entry.columns.now) self.entry.times.now (number_at state.now.work) state.now.time at }
+    {
+        state.work[at] <= self.times[at]
+            && (state.work[at] == 0
+                || (self.is_predecessor_complete(at, state)
+                    && self.figure(RELEASE, at) < state.time))
     }
-    if work[at] == 0 {
-        return true;
-    }
-    if !is_predecessor_complete(at, columns, times, work) {
-        return false;
-    }
-    figure(columns, RELEASE, at) < time
-}
 
-// Whether the completion of one job is possible at this time.
-fn is_completion_possible<'a, 'b>(
-    at: usize,
-    columns: &'a Columns,
-    times: &'a [u64],
-    work: &'b [u64; JobSet::MAX_JOBS],
-    completions: &'b [u64; JobSet::MAX_JOBS],
-    time: u64,
-) -> bool
-    requires { (at < max_jobs) × (at < length times.now) }
-    ensures { result ≡ completion_possible (seen columns.now) times.now (number_at work.now) (number_at completions.now) time at }
-{
-    if !is_complete(at, times, work) {
-        return true;
+    // Whether the completion of one job is possible at this time.
+    #[tactic(auto, unfolding(crate::specs::Ticks::completion_possible))]
+    fn is_completion_possible(self, at: usize, state: &State) -> bool
+        requires { at < length self.times.now }
+        ensures { result ≡ completion_possible (seen self.entry.columns.now) self.entry.times.now (number_at state.now.work) (number_at state.now.completions) state.now.time at }
+    {
+        !self.is_complete(at, state)
+            || (self.figure(RELEASE, at) < state.completions[at]
+                && state.completions[at] <= state.time)
     }
-    if completions[at] <= figure(columns, RELEASE, at) {
-        return false;
-    }
-    completions[at] <= time
-}
 
-// Whether the work and the completion of each of the first count jobs are possible.
-fn are_possible<'a, 'b>(
-    count: usize,
-    columns: &'a Columns,
-    times: &'a [u64],
-    work: &'b [u64; JobSet::MAX_JOBS],
-    completions: &'b [u64; JobSet::MAX_JOBS],
-    time: u64,
-) -> bool
-    requires { (count ≤ max_jobs) × (count ≤ length times.now) }
-    ensures { let s : State = record { time = time; work = work.now; completions = completions.now } in
-        result ≡ every_below count (possible (seen columns.now) times.now s) }
-{
-    let mut n: usize = 0;
-    while n < count {
-        if !is_work_possible(n, columns, times, work, time) {
-            return false;
+    // Whether the work and the completion of each job are possible.
+    fn are_possible(self, state: &State) -> bool
+        ensures { result ≡ every_below (length self.entry.times.now) (possible (seen self.entry.columns.now) self.entry.times.now state.now) }
+    {
+        for n in 0..self.times.len() {
+            if !self.is_work_possible(n, state) {
+                return false;
+            }
+            if !self.is_completion_possible(n, state) {
+                return false;
+            }
         }
-        if !is_completion_possible(n, columns, times, work, completions, time) {
-            return false;
-        }
-        n += 1;
+        true
     }
-    true
-}
 
-// Refusal 11: a state that cannot be.
-pub(crate) fn check_state<'a>(
-    state: State,
-    set: JobSet,
-    columns: &'a Columns,
-    times: &'a [u64],
-) -> Check
-    requires { (machine_check (jobs_of set) times.now ≡ Check.Passed) × Alike (seen columns.now) (table_of (jobs_of set)) set.count }
-    ensures { result ≡ state_check (table_of (jobs_of set)) times.now state }
-{
-    let work = state.work;
-    let completions = state.completions;
-    if State::LAST_TIME < state.time {
-        return Check::Refused(Refusal::ImpossibleState);
+    // Refusal 11: a state that cannot be.
+    pub(crate) fn check_state(self, state: &State) -> Result<(), Refusal>
+        ensures { result ≡ state_check (shown (length self.entry.times.now) self.entry.columns.now) self.entry.times.now state.now }
+    {
+        if State::LAST_TIME < state.time {
+            return Err(Refusal::ImpossibleState);
+        }
+        if !self.are_possible(state) {
+            return Err(Refusal::ImpossibleState);
+        }
+        Ok(())
     }
-    if !are_possible(set.count, columns, times, &work, &completions, state.time) {
-        return Check::Refused(Refusal::ImpossibleState);
-    }
-    Check::Passed
 }

@@ -1,20 +1,17 @@
 // Legs: from one release or completion to the next, every tick of a run does the same.
-ghost use Rattle.std.specs.Prelude.{ℕ, ◌≡◌, ◌-◌, ◌<◌, ◌≤◌, min, cond, ltb, length};
+ghost use Rattle.std.specs.Prelude.{ℕ, ◌≡◌, ◌<◌, ◌≤◌, min, cond, ltb, length};
 ghost use Rattle.laws.specs.Words.{number_at};
-ghost use Rattle.jobs.specs.Limits.{max_jobs};
 ghost use Rattle.theory.proofs.{Columns.seen, NextRelease.next_release};
-ghost use Rattle.machine.specs.{declared.state.State.State, Ticks.last_time, Ticks.best_up_to};
+ghost use Rattle.machine.specs.{Ticks.last_time, Ticks.best_up_to, Legs.leg_of};
 
-use crate::columns::{Columns, RELEASE, figure};
-use crate::pick::best_of;
+use crate::columns::RELEASE;
 use crate::state::State;
-use jobs::set::JobSet;
+use crate::timed::TimedJobs;
 
-// Whether a job runs, which one, and for how many ticks.
+// Which job runs, if one does, and for how many ticks.
 #[derive(Clone, Copy)]
 pub(crate) struct Leg {
-    pub found: bool,
-    pub at: usize,
+    pub at: Option<usize>,
     pub ticks: u64,
 }
 
@@ -25,69 +22,47 @@ fn sooner(next: u64, release: u64, time: u64) -> u64
     if release <= time {
         return next;
     }
-    if release < next {
-        return release;
-    }
-    next
+    next.min(release)
 }
 
-// The first release of the first count jobs that is still to come.
-pub(crate) fn next_release<'a>(count: usize, columns: &'a Columns, time: u64) -> u64
-    requires { count ≤ max_jobs }
-    ensures { result ≡ next_release last_time (seen columns.now).earliest time count }
-{
-    let mut next = State::LAST_TIME;
-    let mut n: usize = 0;
-    while n < count {
-        next = sooner(next, figure(columns, RELEASE, n), time);
-        n += 1;
-    }
-    next
-}
-
-// The same at a later time, where the one before is known: only a release that has come is looked for anew.
-pub(crate) fn release_after<'a>(next: u64, count: usize, columns: &'a Columns, time: u64) -> u64
-    requires { count ≤ max_jobs }
-    ensures { result ≡ cond (ltb time next) next (next_release last_time (seen columns.now).earliest time count) }
-{
-    if time < next {
-        return next;
-    }
-    next_release(count, columns, time)
-}
-
-// The leg from a time on, by the first release after it: what runs, until that release, or until it is complete where that comes first.
-pub(crate) fn leg_of<'a, 'b>(
-    count: usize,
-    columns: &'a Columns,
-    times: &'a [u64],
-    work: &'b [u64; JobSet::MAX_JOBS],
-    completions: &'b [u64; JobSet::MAX_JOBS],
-    time: u64,
-    release: u64,
-) -> Leg
-    requires { (count ≤ max_jobs) × (count ≤ length times.now) × (time ≤ release) × ((u : ℕ) → u < count → number_at work.now u ≤ number_at times.now u) }
-    ensures { let s : State = record { time = time; work = work.now; completions = completions.now } in
-        let best = best_up_to (seen columns.now) times.now s count in
-        let rest = number_at times.now best.at - number_at work.now best.at in
-        result ≡ record { found = best.found; at = best.at; ticks = cond best.found (min (release - time) rest) (release - time) } }
-{
-    let best = best_of(count, columns, times, work, completions, time);
-    let at = best.at;
-    let wait = release - time;
-    if best.found {
-        let rest = times[at] - work[at];
-        if rest < wait {
-            return Leg {
-                found: true,
-                at,
-                ticks: rest,
-            };
+impl<'a> TimedJobs<'a> {
+    // The first release that is still to come.
+    pub(crate) fn next_release(self, time: u64) -> u64
+        ensures { result ≡ next_release last_time (seen self.entry.columns.now).earliest time (length self.entry.times.now) }
+    {
+        let mut next = State::LAST_TIME;
+        for n in 0..self.times.len() {
+            next = sooner(next, self.figure(RELEASE, n), time);
         }
+        next
     }
-    Leg {
-        found: best.found,
-        at,
-        ticks: wait,
+
+    // The same at a later time, where the one before is known: only a release that has come is looked for anew.
+    pub(crate) fn release_after(self, next: u64, time: u64) -> u64
+        ensures { result ≡ cond (ltb time next) next (next_release last_time (seen self.entry.columns.now).earliest time (length self.entry.times.now)) }
+    {
+        if time < next {
+            return next;
+        }
+        self.next_release(time)
+    }
+
+    // The leg from a state on, by the first release after it: what runs, until that release, or until it is complete where that comes first.
+    pub(crate) fn leg_of(self, state: &State, release: u64) -> Leg
+        requires { (state.now.time ≤ release) × ((u : ℕ) → u < length self.times.now → number_at state.now.work u ≤ number_at self.times.now u) }
+        ensures { result ≡ leg_of self.entry.times.now state.now (best_up_to (seen self.entry.columns.now) self.entry.times.now state.now (length self.entry.times.now)) release }
+    {
+        let wait = release - state.time;
+        let Some(best) = self.best_of(state) else {
+            return Leg {
+                at: None,
+                ticks: wait,
+            };
+        };
+        let rest = self.times[best.at] - state.work[best.at];
+        Leg {
+            at: Some(best.at),
+            ticks: wait.min(rest),
+        }
     }
 }

@@ -10,6 +10,6 @@ mod ready;
 pub mod run;
 pub mod state;
 pub mod step;
+mod timed;
 pub mod times;
 pub mod trace;
-mod work;

@@ -1,12 +1,12 @@
 // Which of two ready jobs goes first: the more urgent, among equals the one that became ready earlier, then that of the lower chain number.
-ghost use Rattle.std.specs.Prelude.{◌≡◌, ◌<◌, max};
+ghost use Rattle.std.specs.Prelude.{◌≡◌, ◌<◌, length};
 ghost use Rattle.laws.specs.Words.{number_at};
-ghost use Rattle.jobs.specs.Limits.{max_jobs};
 ghost use Rattle.theory.proofs.Columns.{seen};
 ghost use Rattle.machine.specs.Order.{ready_since, rank_of, outranks};
 
-use crate::columns::{CHAIN, Columns, RELEASE, URGENCY, figure};
-use jobs::set::JobSet;
+use crate::columns::{CHAIN, RELEASE, URGENCY};
+use crate::state::State;
+use crate::timed::TimedJobs;
 
 // What ranks a ready job: its urgency, the time since when it is ready, and its chain.
 #[derive(Clone, Copy)]
@@ -16,60 +16,46 @@ pub struct Rank {
     pub chain: u64,
 }
 
-// Whether a job of the first rank goes before one of the second.
-pub(crate) fn is_outranking(rank: Rank, other: Rank) -> bool
-    ensures { result ≡ outranks rank other }
-{
-    if rank.urgency != other.urgency {
-        return other.urgency < rank.urgency;
+impl Rank {
+    // Whether a job of this rank goes before one of the other.
+    pub(crate) fn is_outranking(self, other: Rank) -> bool
+        ensures { result ≡ outranks self other }
+    {
+        if self.urgency != other.urgency {
+            return other.urgency < self.urgency;
+        }
+        if self.since != other.since {
+            return self.since < other.since;
+        }
+        self.chain < other.chain
     }
-    if rank.since != other.since {
-        return rank.since < other.since;
-    }
-    rank.chain < other.chain
 }
 
-// The later of two times.
-fn later(a: u64, b: u64) -> u64
-    ensures { result ≡ max a b }
-{
-    if a < b {
-        return b;
+impl<'a> TimedJobs<'a> {
+    // Since when a ready job is ready: its release, or its predecessor's completion where that is later.
+    fn ready_since(self, at: usize, state: &State) -> u64
+        requires { at < length self.times.now }
+        ensures { result ≡ ready_since (seen self.entry.columns.now) (number_at state.now.completions) at }
+    {
+        let release = self.figure(RELEASE, at);
+        if at == 0 {
+            return release;
+        }
+        if self.figure(CHAIN, at - 1) != self.figure(CHAIN, at) {
+            return release;
+        }
+        release.max(state.completions[at - 1])
     }
-    a
-}
 
-// Since when a ready job is ready: its release, or its predecessor's completion where that is later.
-fn ready_since<'a, 'b>(
-    at: usize,
-    columns: &'a Columns,
-    completions: &'b [u64; JobSet::MAX_JOBS],
-) -> u64
-    requires { at < max_jobs }
-    ensures { result ≡ ready_since (seen columns.now) (number_at completions.now) at }
-{
-    let release = figure(columns, RELEASE, at);
-    if at == 0 {
-        return release;
-    }
-    if figure(columns, CHAIN, at - 1) != figure(columns, CHAIN, at) {
-        return release;
-    }
-    later(release, completions[at - 1])
-}
-
-// The rank of a ready job.
-pub(crate) fn rank_of<'a, 'b>(
-    at: usize,
-    columns: &'a Columns,
-    completions: &'b [u64; JobSet::MAX_JOBS],
-) -> Rank
-    requires { at < max_jobs }
-    ensures { result ≡ rank_of (seen columns.now) (number_at completions.now) at }
-{
-    Rank {
-        urgency: figure(columns, URGENCY, at),
-        since: ready_since(at, columns, completions),
-        chain: figure(columns, CHAIN, at),
+    // The rank of a ready job.
+    pub(crate) fn rank_of(self, at: usize, state: &State) -> Rank
+        requires { at < length self.times.now }
+        ensures { result ≡ rank_of (seen self.entry.columns.now) (number_at state.now.completions) at }
+    {
+        Rank {
+            urgency: self.figure(URGENCY, at),
+            since: self.ready_since(at, state),
+            chain: self.figure(CHAIN, at),
+        }
     }
 }

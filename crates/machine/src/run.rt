@@ -1,69 +1,64 @@
 // The run from time 0, from one release or completion to the next.
-ghost use Rattle.std.specs.Prelude.{◌≡◌};
+ghost use Rattle.std.specs.Prelude.{◌≡◌, length};
 ghost use Rattle.jobs.specs.Jobs.{jobs_of};
 ghost use Rattle.theory.proofs.{Columns.shown, Runnable.Runnable};
 ghost use Rattle.machine.specs.Runs.{finish, completions, steps_of, run_of};
 
-use crate::columns::{Columns, columns_of};
-use crate::leg::{leg_of, next_release, release_after};
+use crate::columns::columns_of;
+use crate::state::State;
+use crate::timed::TimedJobs;
 use crate::times::{check_times, total};
-use crate::work::work_on;
-use jobs::refusal::Check;
+use jobs::refusal::Refusal;
 use jobs::set::JobSet;
 
-// Each job's completion time, 0 in the other places, the end of the run, and its steps from event to event; all 0 on a refusal.
+// Each job's completion time, 0 in the other places, the end of the run, and its steps from event to event.
 #[derive(Clone, Copy)]
 pub struct Completed {
-    pub check: Check,
     pub completions: [u64; JobSet::MAX_JOBS],
     pub end: u64,
     pub steps: u64,
 }
 
-// The engine: the run of jobs and running times that have passed, leg by leg until no work is left.
-pub(crate) fn run_through<'a>(count: usize, columns: &'a Columns, times: &'a [u64]) -> Completed
-    requires { Runnable (shown count columns.now) times.now }
-    ensures { let t = shown count columns.now in
-        result ≡ record { check = Check.Passed; completions = completions t times.now; end = (finish t times.now).time; steps = steps_of t times.now } }
-{
-    let mut work = [0u64; JobSet::MAX_JOBS];
-    let mut completions = [0u64; JobSet::MAX_JOBS];
-    let mut left = total(times);
-    let mut release = next_release(count, columns, 0);
-    let mut time: u64 = 0;
-    let mut steps: u64 = 0;
-    while 0 < left {
-        let leg = leg_of(count, columns, times, &work, &completions, time, release);
-        let ticks = leg.ticks;
-        if leg.found {
-            let at = leg.at;
-            work_on(at, ticks, times, time, &mut work, &mut completions);
-            left -= ticks;
+impl<'a> TimedJobs<'a> {
+    // The engine: the run of jobs and running times that have passed, leg by leg until no work is left.
+    pub(crate) fn run_through(self) -> Completed
+        requires { Runnable (shown (length self.times.now) self.columns.now) self.times.now }
+        ensures { let t = shown (length self.entry.times.now) self.entry.columns.now in
+            result ≡ record { completions = completions t self.entry.times.now; end = (finish t self.entry.times.now).time; steps = steps_of t self.entry.times.now } }
+    {
+        let mut state = State::start();
+        let mut left = total(self.times);
+        let mut release = self.next_release(0);
+        let mut steps: u64 = 0;
+        // How long a leg is, the leg itself says, so that no range counts the turns.
+        while 0 < left {
+            let leg = self.leg_of(&state, release);
+            let ticks = leg.ticks;
+            state.time += ticks;
+            if let Some(at) = leg.at {
+                state.work_on(at, ticks, self.times);
+                left -= ticks;
+            }
+            release = self.release_after(release, state.time);
+            steps += 1;
         }
-        time += ticks;
-        release = release_after(release, count, columns, time);
-        steps += 1;
-    }
-    Completed {
-        check: Check::Passed,
-        completions,
-        end: time,
-        steps,
+        Completed {
+            completions: state.completions,
+            end: state.time,
+            steps,
+        }
     }
 }
 
 // The refusals of the set, then 8, then the run from time 0 until all jobs are complete.
-pub fn run(set: JobSet, times: &[u64]) -> Completed
+pub fn run(set: JobSet, times: &[u64]) -> Result<Completed, Refusal>
     ensures { result ≡ run_of (jobs_of set) times.now }
 {
-    if let Check::Refused(refusal) = check_times(set, times) {
-        return Completed {
-            check: Check::Refused(refusal),
-            completions: [0; JobSet::MAX_JOBS],
-            end: 0,
-            steps: 0,
-        };
-    }
+    check_times(set, times)?;
     let columns = columns_of(set);
-    run_through(set.count, &columns, times)
+    let jobs = TimedJobs {
+        columns: &columns,
+        times,
+    };
+    Ok(jobs.run_through())
 }

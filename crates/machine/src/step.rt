@@ -5,69 +5,55 @@ ghost use Rattle.theory.specs.Table.{table_of};
 ghost use Rattle.theory.proofs.Columns.{seen, Alike};
 ghost use Rattle.machine.specs.Ticks.{machine_check, state_check, step_of, tick_of};
 
-use crate::check::check_state;
-use crate::columns::{Columns, columns_of};
-use crate::pick::best_of;
-use crate::ready::are_complete;
+use crate::columns::columns_of;
 use crate::state::State;
+use crate::timed::TimedJobs;
 use crate::times::check_times;
-use crate::work::work_on;
-use jobs::refusal::{Check, Refusal};
+use jobs::refusal::Refusal;
 use jobs::set::JobSet;
 
-// What a tick answers: the chain and job that ran, idle, finished before it, or refused.
+// What a tick answers: the chain and job that ran, idle, or finished before it.
 #[derive(Clone, Copy)]
 pub enum Ticked {
     Ran { chain: u64, job: u64 },
     Idle,
     Finished,
-    Refused(Refusal),
 }
 
-// The answer, and the state after the tick.
+// The answer, and the state after the tick, which stands beside a refusal too: `step` promises it there.
 #[derive(Clone, Copy)]
 pub struct Stepped {
-    pub ticked: Ticked,
+    pub ticked: Result<Ticked, Refusal>,
     pub state: State,
 }
 
 // The tick itself, on a state that has passed.
-fn advance<'a>(state: State, set: JobSet, columns: &'a Columns, times: &'a [u64]) -> Stepped
-    requires { ((machine_check (jobs_of set) times.now ≡ Check.Passed) × Alike (seen columns.now) (table_of (jobs_of set)) set.count) × (state_check (table_of (jobs_of set)) times.now state ≡ Check.Passed) }
-    ensures { result ≡ tick_of (jobs_of set) times.now state }
+fn advance(state: State, set: JobSet, jobs: TimedJobs<'_>) -> Stepped
+    requires { ((machine_check (jobs_of set) jobs.times.now ≡ Ok tt) × Alike (seen jobs.columns.now) (table_of (jobs_of set)) set.count) × (state_check (table_of (jobs_of set)) jobs.times.now state ≡ Ok tt) }
+    ensures { result ≡ tick_of (jobs_of set) jobs.entry.times.now state }
 {
-    let mut work = state.work;
-    let mut completions = state.completions;
-    let time = state.time;
-    let best = best_of(set.count, columns, times, &work, &completions, time);
-    if best.found {
-        let at = best.at;
-        work_on(at, 1, times, time, &mut work, &mut completions);
+    let mut next = state;
+    next.time += 1;
+    if let Some(best) = jobs.best_of(&state) {
+        next.work_on(best.at, 1, jobs.times);
+        let job = set.jobs[best.at];
         return Stepped {
-            ticked: Ticked::Ran {
-                chain: set.jobs[at].chain,
-                job: set.jobs[at].job,
-            },
-            state: State {
-                time: time + 1,
-                work,
-                completions,
-            },
+            ticked: Ok(Ticked::Ran {
+                chain: job.chain,
+                job: job.job,
+            }),
+            state: next,
         };
     }
-    if are_complete(set.count, times, &work) {
+    if jobs.are_complete(&state) {
         return Stepped {
-            ticked: Ticked::Finished,
+            ticked: Ok(Ticked::Finished),
             state,
         };
     }
     Stepped {
-        ticked: Ticked::Idle,
-        state: State {
-            time: time + 1,
-            work,
-            completions,
-        },
+        ticked: Ok(Ticked::Idle),
+        state: next,
     }
 }
 
@@ -75,18 +61,22 @@ fn advance<'a>(state: State, set: JobSet, columns: &'a Columns, times: &'a [u64]
 pub fn step(state: State, set: JobSet, times: &[u64]) -> Stepped
     ensures { result ≡ step_of (jobs_of set) times.now state }
 {
-    if let Check::Refused(refusal) = check_times(set, times) {
+    if let Err(refusal) = check_times(set, times) {
         return Stepped {
-            ticked: Ticked::Refused(refusal),
+            ticked: Err(refusal),
             state,
         };
     }
     let columns = columns_of(set);
-    if let Check::Refused(refusal) = check_state(state, set, &columns, times) {
+    let jobs = TimedJobs {
+        columns: &columns,
+        times,
+    };
+    if let Err(refusal) = jobs.check_state(&state) {
         return Stepped {
-            ticked: Ticked::Refused(refusal),
+            ticked: Err(refusal),
             state,
         };
     }
-    advance(state, set, &columns, times)
+    advance(state, set, jobs)
 }

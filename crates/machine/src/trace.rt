@@ -5,12 +5,12 @@ ghost use Rattle.jobs.specs.{Limits.max_jobs, Jobs.jobs_of};
 ghost use Rattle.theory.proofs.{Columns.shown, Runnable.Runnable};
 ghost use Rattle.machine.specs.{Ticks.last_time, Runs.steps_of, Runs.spans, Runs.rows, Runs.trace_of, Runs.traced_in};
 
-use crate::columns::{Columns, columns_of};
-use crate::leg::{leg_of, next_release, release_after};
+use crate::columns::columns_of;
+use crate::state::State;
+use crate::timed::TimedJobs;
 use crate::times::{check_times, total};
-use crate::work::work_on;
 use jobs::job::Job;
-use jobs::refusal::{Check, Refusal};
+use jobs::refusal::Refusal;
 use jobs::set::JobSet;
 
 // Enough numbers for every trace, by the theorem `trace_within_twice`: four for each entry, and at most twice as many entries as there are jobs.
@@ -26,12 +26,13 @@ pub struct Span {
 
 // How many entries a trace has, and the steps from event to event of its run.
 #[derive(Clone, Copy)]
-pub enum Traced {
-    Entries { entries: usize, steps: u64 },
-    Refused(Refusal),
+pub struct Traced {
+    pub entries: usize,
+    pub steps: u64,
 }
 
 // Where a leg goes in a trace: the entry that it is part of, as it then is, and how many there then are.
+// The count tells whether there is a last entry: an optional span would be no plainer, since the entry's number needs the count all the same.
 #[derive(Clone, Copy)]
 pub struct Put {
     pub entry: usize,
@@ -76,74 +77,56 @@ fn write_entry(job: Job, put: Put, out: &mut [u64])
     out[k + 3] = put.span.to;
 }
 
-// How many entries were written, and in how many steps.
-#[derive(Clone, Copy)]
-struct Counts {
-    entries: usize,
-    steps: u64,
-}
-
 // The entries of jobs and running times that have passed, leg by leg into a buffer with room for them.
-fn write_entries<'a>(set: JobSet, columns: &'a Columns, times: &'a [u64], out: &mut [u64]) -> Counts
-    requires { Runnable (shown set.count columns.now) times.now × (8 * set.count ≤ length out.old) }
-    ensures { let t = shown set.count columns.now in
-        let ss = spans t times.now last_time in
-        (result ≡ record { entries = length ss; steps = steps_of t times.now }) × (out.new ≡ patched out.old 0 (rows (jobs_of set) ss)) }
+fn write_entries(set: JobSet, jobs: TimedJobs<'_>, out: &mut [u64]) -> Traced
+    requires { Runnable (shown (length jobs.times.now) jobs.columns.now) jobs.times.now × (length jobs.times.now ≡ set.count) × (8 * length jobs.times.now ≤ length out.old) }
+    ensures { let t = shown (length jobs.entry.times.now) jobs.entry.columns.now in
+        let ss = spans t jobs.entry.times.now last_time in
+        (result ≡ record { entries = length ss; steps = steps_of t jobs.entry.times.now }) × (out.new ≡ patched out.old 0 (rows (jobs_of set) ss)) }
 {
-    let mut work = [0u64; JobSet::MAX_JOBS];
-    let mut completions = [0u64; JobSet::MAX_JOBS];
-    let mut left = total(times);
-    let mut release = next_release(set.count, columns, 0);
+    let mut state = State::start();
+    let mut left = total(jobs.times);
+    let mut release = jobs.next_release(0);
     let mut last = Span {
         at: 0,
         from: 0,
         to: 0,
     };
     let mut entries: usize = 0;
-    let mut time: u64 = 0;
     let mut steps: u64 = 0;
+    // How long a leg is, the leg itself says, so that no range counts the turns.
     while 0 < left {
-        let leg = leg_of(
-            set.count,
-            columns,
-            times,
-            &work,
-            &completions,
-            time,
-            release,
-        );
+        let leg = jobs.leg_of(&state, release);
         let ticks = leg.ticks;
-        let to = time + ticks;
-        if leg.found {
-            let at = leg.at;
-            work_on(at, ticks, times, time, &mut work, &mut completions);
+        let from = state.time;
+        let to = from + ticks;
+        state.time = to;
+        if let Some(at) = leg.at {
+            state.work_on(at, ticks, jobs.times);
             left -= ticks;
-            let put = put_at(last, entries, at, time, to);
+            let put = put_at(last, entries, at, from, to);
             write_entry(set.jobs[at], put, out);
             last = put.span;
             entries = put.entries;
         }
-        time = to;
-        release = release_after(release, set.count, columns, time);
+        release = jobs.release_after(release, to);
         steps += 1;
     }
-    Counts { entries, steps }
+    Traced { entries, steps }
 }
 
 // The refusals of the set, then 8, then 9, then the entries of the run from time 0, four numbers each.
-pub fn trace(set: JobSet, times: &[u64], out: &mut [u64]) -> Traced
+pub fn trace(set: JobSet, times: &[u64], out: &mut [u64]) -> Result<Traced, Refusal>
     ensures { (result ≡ trace_of (jobs_of set) times.now (length out.old)) × (out.new ≡ traced_in (jobs_of set) times.now out.old) }
 {
-    if let Check::Refused(refusal) = check_times(set, times) {
-        return Traced::Refused(refusal);
-    }
+    check_times(set, times)?;
     if out.len() < 8 * set.count {
-        return Traced::Refused(Refusal::ShortBuffer);
+        return Err(Refusal::ShortBuffer);
     }
     let columns = columns_of(set);
-    let counts = write_entries(set, &columns, times, out);
-    Traced::Entries {
-        entries: counts.entries,
-        steps: counts.steps,
-    }
+    let jobs = TimedJobs {
+        columns: &columns,
+        times,
+    };
+    Ok(write_entries(set, jobs, out))
 }

@@ -1,17 +1,17 @@
 -- Jobs at their places in numbers: one read, all of them read into a set, and how many there are. Assumes nothing.
-use Prim.Native.Nat.{ℕ, ◌+◌, ◌*◌, ◌/◌, ◌%◌, ◌≤◌, ◌<◌, min}
+use Prim.Native.Nat.{ℕ, ◌+◌, ◌*◌, ◌≤◌, ◌<◌, min}
 use mathlib.Core.Path.{◌≡◌, ap, ap₂, ◌∙◌}
 use mathlib.Core.List.{List, []}
 use native.Mathlib.Omega.{arith}
 use native.Mathlib.Nat.{add-zero}
-use lib.ListN.{length, set}
+use lib.ListN.{set}
 use Rattle.laws.specs.Words.{tabulate, padded, number_at}
 use Rattle.laws.proofs.Filling.{filled_none, filled_next}
 use Rattle.jobs.specs.declared.job.Job.{Job}
 use Rattle.jobs.specs.declared.set.JobSet.{JobSet}
 use Rattle.jobs.specs.Limits.{max_jobs}
 use Rattle.jobs.specs.Jobs.{job, no_job, set_of}
-use Rattle.numbers.specs.Numbers.{job_size, job_in, jobs_held, set_in}
+use Rattle.numbers.specs.Numbers.{job_size, job_in, set_in}
 
 -- the job whose numbers stand at its place
 pub job_read : (numbers : List ℕ) (i c k r p l m d : ℕ)
@@ -47,12 +47,3 @@ unfolding set_in
 set_all numbers count n s h l =
     let e : n ≡ min count max_jobs = omega (arith, h.0, h.1) in
     h.2 ∙ ap (λ (k : ℕ). counted count (padded max_jobs no_job (tabulate 0 k (job_in numbers)))) e
-
--- whole jobs, and one more where some numbers are left
-pub held_whole : (numbers : List ℕ) → length numbers % job_size ≡ 0 → length numbers / job_size ≡ jobs_held numbers
-unfolding jobs_held
-held_whole numbers h = omega (arith, h)
-
-pub held_more : (numbers : List ℕ) → 0 < length numbers % job_size → length numbers / job_size + 1 ≡ jobs_held numbers
-unfolding jobs_held
-held_more numbers h = omega (arith, h)

@@ -5,9 +5,9 @@
 --   column_in, state_in         a number for each place of a set, and the state that numbers start with
 --   delay_numbers              the numbers of what delays one job; delays_numbers of each job
 --   room_check, put_check       number 9 where memory is too short
-use Rattle.std.specs.Prelude.{ℕ, ◌+◌, ◌-◌, ◌*◌, ◌/◌, min, List, [], ◌∷◌, ◌++◌, leb, length, take, drop}
+use Rattle.std.specs.Prelude.{ℕ, ◌+◌, ◌-◌, ◌*◌, ◌/◌, min, List, [], ◌∷◌, ◌++◌, leb, length, take, drop, Result, Ok, ⊤}
 use Rattle.laws.specs.Words.{number_at, tabulate, padded, patched}
-use Rattle.jobs.specs.declared.{job.Job.Job, set.JobSet.JobSet, refusal.Refusal.Refusal, refusal.Check.Check}
+use Rattle.jobs.specs.declared.{job.Job.Job, set.JobSet.JobSet, refusal.Refusal.Refusal}
 use Rattle.jobs.specs.{Limits.max_jobs, Refusals.unless, Refusals.on_pass, Jobs.job, Jobs.no_job}
 use Rattle.machine.specs.declared.state.State.{State}
 use Rattle.completion.specs.declared.{answer.Block.Block, answer.Delay.Delay}
@@ -74,11 +74,11 @@ delays_numbers chains [] = []
 delays_numbers chains (d ∷ ds) = delay_numbers chains d ++ delays_numbers chains ds
 
 -- Number 9, where memory has fewer numbers than are to be written.
-unfoldable pub room_check : ℕ → List ℕ → Check
-room_check size memory = unless (leb size (length memory)) Refusal.ShortBuffer Check.Passed
+unfoldable pub room_check : ℕ → List ℕ → Result ⊤ Refusal
+room_check size memory = unless (leb size (length memory)) Refusal.ShortBuffer (Ok tt)
 
 -- What is checked before jobs are written: 4 where they are more than a set has places for, then 9.
-unfoldable pub put_check : List Job → List ℕ → Check
+unfoldable pub put_check : List Job → List ℕ → Result ⊤ Refusal
 put_check js memory = unless (leb (length js) max_jobs) Refusal.TooManyRecords (room_check (job_size * length js) memory)
 
 -- Memory after the jobs from place `from` on are written, each at its own place; on a refusal all is as it was.

@@ -6,18 +6,8 @@ ghost use Rattle.numbers.specs.Numbers.{block_numbers, delay_numbers, delays_num
 
 use crate::put::put_at;
 use completion::answer::{Block, Delay};
-use jobs::refusal::{Check, Refusal};
+use jobs::refusal::Refusal;
 use jobs::set::JobSet;
-
-// The count, and the limit where it is above that.
-fn at_most(limit: usize, count: usize) -> usize
-    ensures { result ≡ min count limit }
-{
-    if count < limit {
-        return count;
-    }
-    limit
-}
 
 // Writes the numbers of a block at a place, and answers the place after them.
 fn put_block(block: Block, out: &mut [u64], at: usize) -> usize
@@ -34,10 +24,8 @@ fn put_blocks(blocks: [Block; Delay::CHAINS], chains: usize, out: &mut [u64], at
     ensures { let numbers = block_numbers (take chains blocks) in (result ≡ at + length numbers) × (out.new ≡ patched out.old at numbers) }
 {
     let mut place = at;
-    let mut c: usize = 0;
-    while c < chains {
+    for c in 0..chains {
         place = put_block(blocks[c], out, place);
-        c += 1;
     }
     place
 }
@@ -59,10 +47,8 @@ fn put_each(delays: [Delay; JobSet::MAX_JOBS], count: usize, chains: usize, out:
     ensures { out.new ≡ patched out.old 0 (delays_numbers chains (take count delays)) }
 {
     let mut at: usize = 0;
-    let mut n: usize = 0;
-    while n < count {
+    for n in 0..count {
         at = put_delay(delays[n], chains, out, at);
-        n += 1;
     }
 }
 
@@ -72,15 +58,15 @@ pub fn put_delays(
     count: usize,
     chains: usize,
     out: &mut [u64],
-) -> Check
+) -> Result<(), Refusal>
     ensures value { result ≡ room_check (length (delays_numbers chains (take count delays))) out.old }
     ensures out_after { out.new ≡ written (delays_numbers chains (take count delays)) out.old }
 {
-    let jobs = at_most(JobSet::MAX_JOBS, count);
-    let blocks = at_most(Delay::CHAINS, chains);
+    let jobs = count.min(JobSet::MAX_JOBS);
+    let blocks = chains.min(Delay::CHAINS);
     if out.len() < jobs * (2 * blocks + 1) {
-        return Check::Refused(Refusal::ShortBuffer);
+        return Err(Refusal::ShortBuffer);
     }
     put_each(delays, jobs, blocks, out);
-    Check::Passed
+    Ok(())
 }

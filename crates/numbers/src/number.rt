@@ -6,8 +6,5 @@ ghost use Rattle.laws.specs.Words.{number_at};
 pub fn number_at(numbers: &[u64], at: usize) -> u64
     ensures { result ≡ number_at numbers.now at }
 {
-    if at < numbers.len() {
-        return numbers[at];
-    }
-    0
+    numbers.get(at).copied().unwrap_or(0)
 }

@@ -7,7 +7,7 @@ ghost use Rattle.numbers.specs.Numbers.{job_size, job_numbers, numbers_of, job_i
 use crate::number::number_at;
 use crate::put::put_at;
 use jobs::job::Job;
-use jobs::refusal::{Check, Refusal};
+use jobs::refusal::Refusal;
 use jobs::set::JobSet;
 
 // How many numbers a job takes.
@@ -34,11 +34,7 @@ fn job_in(numbers: &[u64], i: usize) -> Job
 fn jobs_held(numbers: &[u64]) -> usize
     ensures { result ≡ jobs_held numbers.now }
 {
-    let whole = numbers.len() / JOB_SIZE;
-    if numbers.len() % JOB_SIZE == 0 {
-        return whole;
-    }
-    whole + 1
+    numbers.len().div_ceil(JOB_SIZE)
 }
 
 // The set of the first count jobs.
@@ -47,13 +43,11 @@ pub fn set_in(numbers: &[u64], count: usize) -> JobSet
 {
     let mut set = JobSet::empty();
     set.count = count;
-    let mut n: usize = 0;
-    while n < count {
+    for n in 0..count {
         if JobSet::MAX_JOBS <= n {
             return set;
         }
         set.jobs[n] = job_in(numbers, n);
-        n += 1;
     }
     set
 }
@@ -89,26 +83,24 @@ fn put_rest(set: JobSet, from: usize, out: &mut [u64])
 {
     let count = set.count;
     let mut at = JOB_SIZE * from;
-    let mut n = from;
-    while n < count {
+    for n in from..count {
         at = put_job(set.jobs[n], out, at);
-        n += 1;
     }
 }
 
 // Writes the jobs of a set from place `from` on, each at its own place: 4 where the set counts more jobs than it has places, then 9.
-pub fn put_jobs(set: JobSet, from: usize, out: &mut [u64]) -> Check
+pub fn put_jobs(set: JobSet, from: usize, out: &mut [u64]) -> Result<(), Refusal>
     ensures { (result ≡ put_check (jobs_of set) out.old) × (out.new ≡ put_from (jobs_of set) from out.old) }
 {
     let count = set.count;
     if JobSet::MAX_JOBS < count {
-        return Check::Refused(Refusal::TooManyRecords);
+        return Err(Refusal::TooManyRecords);
     }
     if out.len() < JOB_SIZE * count {
-        return Check::Refused(Refusal::ShortBuffer);
+        return Err(Refusal::ShortBuffer);
     }
     if from <= count {
         put_rest(set, from, out);
     }
-    Check::Passed
+    Ok(())
 }

@@ -6,7 +6,7 @@ ghost use Rattle.numbers.specs.Numbers.{state_size, state_numbers, column_in, st
 
 use crate::number::number_at;
 use crate::put::put_at;
-use jobs::refusal::{Check, Refusal};
+use jobs::refusal::Refusal;
 use jobs::set::JobSet;
 use machine::state::State;
 
@@ -25,10 +25,8 @@ fn column_in(numbers: &[u64], from: usize) -> [u64; JobSet::MAX_JOBS]
     ensures { result ≡ column_in numbers.now from }
 {
     let mut column = [0u64; JobSet::MAX_JOBS];
-    let mut n: usize = 0;
-    while n < JobSet::MAX_JOBS {
+    for n in 0..JobSet::MAX_JOBS {
         column[n] = number_at(numbers, from + n);
-        n += 1;
     }
     column
 }
@@ -45,17 +43,17 @@ pub fn state_in(numbers: &[u64]) -> State
 }
 
 // Writes a state at the start of out, or refuses with 9 where it does not fit and writes nothing.
-pub fn put_state(state: State, out: &mut [u64]) -> Check
+pub fn put_state(state: State, out: &mut [u64]) -> Result<(), Refusal>
     ensures { (result ≡ room_check state_size out.old) × (out.new ≡ written (state_numbers state) out.old) }
 {
     let time = [state.time];
     let work = state.work;
     let completions = state.completions;
     if out.len() < STATE_SIZE {
-        return Check::Refused(Refusal::ShortBuffer);
+        return Err(Refusal::ShortBuffer);
     }
     put_at(&time, out, 0);
     put_at(&work, out, WORK);
     put_at(&completions, out, COMPLETIONS);
-    Check::Passed
+    Ok(())
 }

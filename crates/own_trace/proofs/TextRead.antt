@@ -7,7 +7,7 @@ use mathlib.Core.Path.{◌≡◌, ap, ◌∙◌}
 use native.Mathlib.Omega.{arith}
 use lib.ListN.{length}
 use Rattle.jobs.specs.declared.job.Job.{Job}
-use Rattle.jobs.specs.declared.refusal.Check.TheVariants.{Passed}
+use Rattle.std.specs.Prelude.{Ok}
 use Rattle.theory.specs.Table.{table_of}
 use Rattle.machine.specs.Ticks.{last_time, machine_check}
 use Rattle.machine.specs.Runs.{rows, traced}
@@ -23,10 +23,10 @@ use Rattle.own_trace.proofs.TracedRows.{traced_told}
 use Rattle.own_trace.proofs.TextLines.{row_line, trace_lines}
 use Rattle.own_trace.proofs.LinesRead.{lines_read, header_read}
 
-module _ (js : List Job) (times : List ℕ) (passed : machine_check js times ≡ Passed) where
+module _ (js : List Job) (times : List ℕ) (passed : machine_check js times ≡ Ok tt) where
   pub text_reads : length (rows_traced (traced js times)) ≤ max_rows → in_order (rows_traced (traced js times)) ≡ true
       → recording_of js (trace_header ++ entries_text (rows js (traced js times)) (length (traced js times)))
-      ≡ recording_with Passed (rows_traced (traced js times))
+      ≡ Ok (recording_with (rows_traced (traced js times)))
   unfolding recording_of
   text_reads few order =
       let t = table_of js in

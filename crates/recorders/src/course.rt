@@ -32,8 +32,7 @@ pub(crate) fn course_of(recording: Recording) -> Figures
 {
     let mut course = [[0u64; JobSet::MAX_JOBS]; COLUMNS];
     let count = recording.count;
-    let mut n: usize = 0;
-    while n < count {
+    for n in 0..count {
         let row = recording.rows[n];
         let at = row.at;
         let total = figure(&course, TOTAL, at);
@@ -41,7 +40,6 @@ pub(crate) fn course_of(recording: Recording) -> Figures
         course[TOTAL][at] = total + (row.to - row.from);
         course[BEGIN][at] = begin_after(total, begin, row.from);
         course[DONE][at] = row.to;
-        n += 1;
     }
     course
 }

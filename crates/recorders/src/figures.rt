@@ -12,7 +12,7 @@ pub type Figures = [[u64; JobSet::MAX_JOBS]; COLUMNS];
 pub const COLUMNS: usize = 3;
 
 // The figure of column k at place i.
-pub(crate) fn figure<'a>(figures: &'a Figures, k: usize, i: usize) -> u64
+pub(crate) fn figure(figures: &Figures, k: usize, i: usize) -> u64
     requires { (k < column_count) × (i < max_jobs) }
     ensures { result ≡ theory_figure figures.now k i }
 {

@@ -23,7 +23,7 @@ pub(crate) fn ready_after(chain: u64, done: u64, job: Job) -> u64
 }
 
 // Whether the job at place n fits, which is ready from `ready` on.
-fn job_fits<'a>(job: Job, ready: u64, n: usize, course: &'a Figures) -> bool
+fn job_fits(job: Job, ready: u64, n: usize, course: &Figures) -> bool
     requires { n < max_jobs }
     ensures { result ≡ job_fits_in course.now ready job n }
 {
@@ -36,15 +36,14 @@ fn job_fits<'a>(job: Job, ready: u64, n: usize, course: &'a Figures) -> bool
 }
 
 // Given releases do: where every job before fits, the effective release adds nothing to its predecessor's end.
-pub(crate) fn jobs_fit<'a>(set: JobSet, course: &'a Figures) -> bool
+pub(crate) fn jobs_fit(set: JobSet, course: &Figures) -> bool
     requires { set.count ≤ max_jobs }
     ensures { result ≡ every_below set.count (fits_in (jobs_of set) course.now) }
 {
     let count = set.count;
     let mut chain: u64 = 0;
     let mut done: u64 = 0;
-    let mut n: usize = 0;
-    while n < count {
+    for n in 0..count {
         let job = set.jobs[n];
         let ready = ready_after(chain, done, job);
         let fits = job_fits(job, ready, n, course);
@@ -53,7 +52,6 @@ pub(crate) fn jobs_fit<'a>(set: JobSet, course: &'a Figures) -> bool
         }
         chain = job.chain;
         done = figure(course, DONE, n);
-        n += 1;
     }
     true
 }

@@ -3,7 +3,7 @@
 
 pub mod compare;
 mod course;
-pub mod difference;
+mod difference;
 mod figures;
 mod fitting;
 mod legal;

@@ -29,7 +29,7 @@ fn limit_for(row: Row, higher: bool) -> u64
 }
 
 // Whether job v waits in the gap, which goes from `gap` to the row, or waits while the row lasts and is more urgent than the row's job.
-fn is_held_up<'a>(gap: u64, row: Row, v: usize, waiting: &'a Figures) -> bool
+fn is_held_up(gap: u64, row: Row, v: usize, waiting: &Figures) -> bool
     requires { (v < max_jobs) × Following gap row }
     ensures { result ≡ held_up waiting.now gap row v }
 {
@@ -41,36 +41,32 @@ fn is_held_up<'a>(gap: u64, row: Row, v: usize, waiting: &'a Figures) -> bool
 }
 
 // Whether a row and the gap before it hold up none of the first count jobs.
-fn row_fits<'a>(gap: u64, row: Row, count: usize, waiting: &'a Figures) -> bool
+fn row_fits(gap: u64, row: Row, count: usize, waiting: &Figures) -> bool
     requires { (count ≤ max_jobs) × Following gap row }
     ensures { result ≡ row_fits_in waiting.now count gap row }
 {
-    let mut v: usize = 0;
-    while v < count {
+    for v in 0..count {
         if is_held_up(gap, row, v, waiting) {
             return false;
         }
-        v += 1;
     }
     true
 }
 
 // The gap before a row begins where the row before ends, and the first at time 0.
-pub(crate) fn rows_fit<'a>(recording: Recording, count: usize, waiting: &'a Figures) -> bool
+pub(crate) fn rows_fit(recording: Recording, count: usize, waiting: &Figures) -> bool
     requires { (count ≤ max_jobs) × Readable count recording }
     ensures { result ≡ rows_fit_in waiting.now count 0 (rows_of recording) }
 {
     let rows = recording.count;
     let mut gap: u64 = 0;
-    let mut n: usize = 0;
-    while n < rows {
+    for n in 0..rows {
         let row = recording.rows[n];
         let fits = row_fits(gap, row, count, waiting);
         if !fits {
             return false;
         }
         gap = row.to;
-        n += 1;
     }
     true
 }

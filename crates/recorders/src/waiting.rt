@@ -14,7 +14,7 @@ pub const READY: usize = 0;
 pub const URGENCY: usize = 1;
 
 // The column DONE is that of the course; places beyond the jobs hold 0.
-pub(crate) fn waiting_of<'a>(set: JobSet, course: &'a Figures) -> Figures
+pub(crate) fn waiting_of(set: JobSet, course: &Figures) -> Figures
     requires { set.count ≤ max_jobs }
     ensures { result ≡ waiting_in (jobs_of set) course.now }
 {
@@ -22,15 +22,13 @@ pub(crate) fn waiting_of<'a>(set: JobSet, course: &'a Figures) -> Figures
     let count = set.count;
     let mut chain: u64 = 0;
     let mut done: u64 = 0;
-    let mut n: usize = 0;
-    while n < count {
+    for n in 0..count {
         let job = set.jobs[n];
         waiting[READY][n] = ready_after(chain, done, job);
         done = figure(course, DONE, n);
         waiting[URGENCY][n] = Job::urgency(job);
         waiting[DONE][n] = done;
         chain = job.chain;
-        n += 1;
     }
     waiting
 }

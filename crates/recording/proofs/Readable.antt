@@ -1,10 +1,10 @@
 -- What holds of a recording that was read: its rows are few, in order, and of jobs of the table. Assumes nothing.
 --   Fine       this, of rows
 --   Readable   this, of a recording
+use Rattle.std.specs.Prelude.{Option, None, Some, Result, ⊤, Ok, Err}
 use Prim.Native.Nat.{ℕ, ◌≤◌, ◌<◌}
 use mathlib.Core.Path.{◌≡◌, refl, sym, ap, subst, ◌∙◌}
 use mathlib.Core.Bool.{Bool, true, false, cond, ◌||◌}
-use mathlib.Core.Option.{Option, none, some}
 use mathlib.Core.List.{List, [], ◌∷◌, ◌++◌}
 use native.Mathlib.Omega.{arith}
 use lib.Dec.{ltb, eqb}
@@ -17,14 +17,12 @@ use Rattle.laws.proofs.Lists.{get_d_padded}
 use Rattle.jobs.specs.declared.job.Job.{Job}
 use Rattle.jobs.specs.declared.refusal.Refusal.{Refusal}
 use Rattle.jobs.specs.declared.refusal.Refusal.TheVariants.{MalformedRecording}
-use Rattle.jobs.specs.declared.refusal.Check.{Check}
-use Rattle.jobs.specs.declared.refusal.Check.TheVariants.{Passed, Refused}
 use Rattle.jobs.specs.Checks.{check_of}
 use Rattle.table.specs.Lines.{lines_of, row_of, is_line}
 use Rattle.recording.specs.declared.row.Row.{Row}
 use Rattle.recording.specs.declared.reading.Recording.{Recording}
 use Rattle.recording.specs.Rows.{no_row, follows, in_order}
-use Rattle.recording.specs.Reading.{header, columns, max_rows, row_in, is_next_row, recording_with, refused_with, rows_from, under_header, recording_of, rows_of}
+use Rattle.recording.specs.Reading.{header, columns, max_rows, row_in, is_next_row, recording_with, rows_from, under_header, recording_of, rows_of}
 use Rattle.recording.proofs.Order.{order_snoc}
 use Rattle.recording.proofs.Recordings.{rows_with}
 
@@ -57,7 +55,7 @@ next_parts n before r h =
     record {
       at = ltb-true r.at n own.0;
       long = ltb-true r.from r.to own.1;
-      behind = λ some. rw (ne_eqb (length before) 0 (λ z. omega arith)) at last;
+      behind = λ Some. rw (ne_eqb (length before) 0 (λ z. omega arith)) at last;
     }
 
 fine_more : (n : ℕ) (before : List Row) (r : Row) → Fine n before → length before < max_rows → Next n before r → Fine n (before ++ (r ∷ []))
@@ -74,25 +72,25 @@ fine_more n before r f room x =
     last_at = ap (λ (k : ℕ). get_or (before ++ (r ∷ [])) k no_row) (omega arith) ∙ get_or-append-add before (r ∷ []) 0 no_row
 
 -- ---- a recording that passes holds such rows
-abbrev Passes : ℕ → Recording → Type 0
-Passes n recording = recording.check ≡ Passed → (rows : List Row) × (recording ≡ recording_with Passed rows) × Fine n rows
+abbrev Passes : ℕ → Result Recording Refusal → Type 0
+Passes n answer = (recording : Recording) → answer ≡ Ok recording → (rows : List Row) × (recording ≡ recording_with rows) × Fine n rows
 
-refused_passes : (n : ℕ) (x : Refusal) → Passes n (refused_with x)
-refused_passes n x p = let z : ◌≡◌ {A = ℕ} 0 1 = cc in absurd (omega arith)
+refused_passes : (n : ℕ) (x : Refusal) → Passes n (Err x)
+refused_passes n x recording p = let z : ◌≡◌ {A = ℕ} 0 1 = cc in absurd (omega arith)
 
-after_test : (n : ℕ) (b : Bool) (rest : Recording) (x : Refusal) → (b ≡ true → Passes n rest) → Passes n (cond b rest (refused_with x))
+after_test : (n : ℕ) (b : Bool) (rest : Result Recording Refusal) (x : Refusal) → (b ≡ true → Passes n rest) → Passes n (cond b rest (Err x))
 after_test n true rest x f = f refl
 after_test n false rest x f = refused_passes n x
 
-after-row : (n : ℕ) (r : Option (List ℕ)) (x : Refusal) (rest : List ℕ → Recording) → ((values : List ℕ) → Passes n (rest values))
-    → Passes n (elim r [ none ↦ refused_with x | some values ↦ rest values ])
-after-row n (some values) x rest f = f values
-after-row n none x rest f = refused_passes n x
+after-row : (n : ℕ) (r : Option (List ℕ)) (x : Refusal) (rest : List ℕ → Result Recording Refusal) → ((values : List ℕ) → Passes n (rest values))
+    → Passes n (elim r [ None ↦ Err x | Some values ↦ rest values ])
+after-row n (Some values) x rest f = f values
+after-row n None x rest f = refused_passes n x
 
 module _ (js : List Job) where
   rows_pass : (before : List Row) (lines : List (List ℕ)) → Fine (length js) before → Passes (length js) (rows_from js before lines)
   unfolding rows_from
-  rows_pass before [] f = λ p. (before, refl, f)
+  rows_pass before [] f = λ recording p. (before, cc, f)
   rows_pass before (line ∷ lines) f =
       after_test (length js) (ltb (length before) max_rows) _ _
       (λ room. after-row (length js) (row_of columns line) _ _
@@ -104,25 +102,25 @@ module _ (js : List Job) where
   under_passes [] = refused_passes (length js) MalformedRecording
   under_passes (line ∷ lines) = after_test (length js) (is_line header line) (rows_from js [] lines) MalformedRecording (λ is. rows_pass [] lines (fine_none (length js)))
 
-  by_check : (check : Check) (text : List ℕ) → check_of js ≡ check → Passes (length js) (recording_of js text)
+  by_check : (check : Result ⊤ Refusal) (text : List ℕ) → check_of js ≡ check → Passes (length js) (recording_of js text)
   unfolding recording_of
-  by_check Passed text e = rw e (under_passes (lines_of text))
-  by_check (Refused x) text e = rw e (refused_passes (length js) x)
+  by_check (Ok tt) text e = rw e (under_passes (lines_of text))
+  by_check (Err x) text e = rw e (refused_passes (length js) x)
 
-  pub recording_fine : (text : List ℕ) → (recording_of js text).check ≡ Passed → Fine (length js) (rows_of (recording_of js text))
-  recording_fine text p =
-      let read = by_check (check_of js) text refl p in
-      subst (Fine (length js)) (sym (ap rows_of read.1 ∙ rows_with Passed read.0)) read.2
+  pub recording_fine : (text : List ℕ) (recording : Recording) → recording_of js text ≡ Ok recording → Fine (length js) (rows_of recording)
+  recording_fine text recording p =
+      let read = by_check (check_of js) text refl recording p in
+      subst (Fine (length js)) (sym (ap rows_of read.1 ∙ rows_with read.0)) read.2
 
-  pub recording_readable : (text : List ℕ) → (recording_of js text).check ≡ Passed → Readable (length js) (recording_of js text)
-  recording_readable text p =
-      let read = by_check (check_of js) text refl p in
+  pub recording_readable : (text : List ℕ) (recording : Recording) → recording_of js text ≡ Ok recording → Readable (length js) recording
+  recording_readable text recording p =
+      let read = by_check (check_of js) text refl recording p in
       subst (Readable (length js)) (sym read.1) (readable read.0 read.2)
     where
-      readable : (rows : List Row) → Fine (length js) rows → Readable (length js) (recording_with Passed rows)
+      readable : (rows : List Row) → Fine (length js) rows → Readable (length js) (recording_with rows)
       readable rows f =
           record {
             few = f.few;
-            order = rw (rows_with Passed rows) f.order;
+            order = rw (rows_with rows) f.order;
             inside = λ i l. rw (get_d_padded max_rows no_row rows i) (f.inside i l);
           }

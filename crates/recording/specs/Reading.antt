@@ -1,7 +1,7 @@
 -- A whole recording. Document 02, R-5 and its numbers 15 and 16. Assumes nothing.
-use Rattle.std.specs.Prelude.{ℕ, Bool, cond, ◌&&◌, ◌||◌, List, [], ◌∷◌, ◌++◌, ltb, eqb, length, get_or, take}
-use Rattle.laws.specs.Words.{none, some, last_of, padded, ascii}
-use Rattle.jobs.specs.{declared.job.Job.Job, declared.refusal.Refusal.Refusal, declared.refusal.Check.Check, Refusals.on_pass, Jobs.place_in, Checks.check_of}
+use Rattle.std.specs.Prelude.{None, Some, ℕ, Bool, cond, ◌&&◌, ◌||◌, List, [], ◌∷◌, ◌++◌, ltb, eqb, length, get_or, take, Result, Ok, Err}
+use Rattle.laws.specs.Words.{last_of, padded, ascii}
+use Rattle.jobs.specs.{declared.job.Job.Job, declared.refusal.Refusal.Refusal, Refusals.on_pass, Jobs.place_in, Checks.check_of}
 use Rattle.table.specs.Lines.{lines_of, row_of, under}
 use Rattle.recording.specs.{declared.row.Row.Row, declared.reading.Recording.Recording, Rows.row, Rows.no_row, Rows.follows}
 
@@ -26,36 +26,32 @@ row_in js values = let at = get_or values in row (place_in js (at 0 0) (at 1 0))
 unfoldable pub is_next_row : ℕ → ℕ → Row → Row → Bool
 is_next_row jobs n last r = ltb r.at jobs && ltb r.from r.to && (eqb n 0 || follows last r)
 
--- The answer that holds these rows.
-abbrev pub recording_with : Check → List Row → Recording
-recording_with check rows = record { check = check; rows = padded max_rows no_row rows; count = length rows }
-
--- The answer to a refused recording: the refusal, and no row.
-abbrev pub refused_with : Refusal → Recording
-refused_with refusal = recording_with (Check.Refused refusal) []
+-- The recording that holds these rows.
+abbrev pub recording_with : List Row → Recording
+recording_with rows = record { rows = padded max_rows no_row rows; count = length rows }
 
 -- 16, before the line is read, and 15, line by line after the rows before, the first bad line deciding.
-unfoldable pub rows_from : List Job → List Row → List (List ℕ) → Recording
-rows_from js before [] = recording_with Check.Passed before
+unfoldable pub rows_from : List Job → List Row → List (List ℕ) → Result Recording Refusal
+rows_from js before [] = Ok (recording_with before)
 rows_from js before (line ∷ lines) =
     cond (ltb (length before) max_rows)
     (elim (row_of columns line) [
-      | none ↦ refused_with Refusal.MalformedRecording
-      | some values ↦
+      | None ↦ Err Refusal.MalformedRecording
+      | Some values ↦
           let r = row_in js values in
           let rest = rows_from js (before ++ (r ∷ [])) lines in
-          cond (is_next_row (length js) (length before) (last_of no_row before) r) rest (refused_with Refusal.MalformedRecording)
+          cond (is_next_row (length js) (length before) (last_of no_row before) r) rest (Err Refusal.MalformedRecording)
     ])
-    (refused_with Refusal.TooManyRows)
+    (Err Refusal.TooManyRows)
 
 -- 15, then the lines under the header.
-abbrev pub under_header : List Job → List (List ℕ) → Recording
-under_header js lines = under header lines (rows_from js []) (refused_with Refusal.MalformedRecording)
+abbrev pub under_header : List Job → List (List ℕ) → Result Recording Refusal
+under_header js lines = under header lines (rows_from js []) (Err Refusal.MalformedRecording)
 
 -- The answer to reading a recording against a set: the refusals of the set, then 15 and 16.
-unfoldable pub recording_of : List Job → List ℕ → Recording
-recording_of js text = on_pass (check_of js) refused_with (under_header js (lines_of text))
+unfoldable pub recording_of : List Job → List ℕ → Result Recording Refusal
+recording_of js text = on_pass (check_of js) Err (under_header js (lines_of text))
 
--- The rows that an answer holds.
+-- The rows that a recording holds.
 unfoldable pub rows_of : Recording → List Row
 rows_of recording = take recording.count recording.rows

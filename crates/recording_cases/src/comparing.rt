@@ -1,41 +1,27 @@
 // What comparing two recordings comes to.
-use crate::print::{print_number, print_refused};
-use jobs::refusal::Check;
 use jobs::set::JobSet;
 use recorders::compare::compare;
-use recorders::difference::Difference;
 use recording::reading::read_recording;
 use std::io;
-use streams::print;
 
 // How many rows a recording has, or its refusal.
 fn print_read<R: Print>(rt: &R, set: JobSet, text: &[u8]) -> io::Result<()> {
-    let recording = read_recording(set, text);
-    let check = recording.check;
-    match check {
-        Check::Refused(refusal) => print_refused(rt, refusal),
-        Check::Passed => {
+    match read_recording(set, text) {
+        Err(refusal) => print!(rt; "{refusal}"),
+        Ok(recording) => {
             let count = recording.count;
-            print(rt, b"rows ")?;
-            print_number(rt, count as u64)
+            print!(rt; "rows {count}")
         }
     }
 }
 
-fn print_legal<R: Print>(rt: &R, legal: bool) -> io::Result<()> {
+// The same, and whether it is legal.
+fn print_judged<R: Print>(rt: &R, set: JobSet, text: &[u8], legal: bool) -> io::Result<()> {
+    print_read(rt, set, text)?;
     if legal {
-        print(rt, b" legal, ")
+        print!(rt; " legal, ")
     } else {
-        print(rt, b" illegal, ")
-    }
-}
-
-fn print_difference<R: Print>(rt: &R, difference: Difference) -> io::Result<()> {
-    print(rt, b"difference ")?;
-    if difference.found {
-        print_number(rt, difference.tick)
-    } else {
-        print(rt, b"none")
+        print!(rt; " illegal, ")
     }
 }
 
@@ -46,18 +32,20 @@ pub(crate) fn print_compared<R: Print>(
     first: &[u8],
     second: &[u8],
 ) -> io::Result<()> {
-    let compared = compare(set, first, second);
-    let check = compared.check;
-    if let Check::Refused(refusal) = check {
-        print_read(rt, set, first)?;
-        print(rt, b", ")?;
-        print_read(rt, set, second)?;
-        print(rt, b", ")?;
-        return print_refused(rt, refusal);
+    match compare(set, first, second) {
+        Err(refusal) => {
+            print_read(rt, set, first)?;
+            print!(rt; ", ")?;
+            print_read(rt, set, second)?;
+            print!(rt; ", {refusal}")
+        }
+        Ok(compared) => {
+            print_judged(rt, set, first, compared.first)?;
+            print_judged(rt, set, second, compared.second)?;
+            match compared.difference {
+                Some(tick) => print!(rt; "difference {tick}"),
+                None => print!(rt; "difference none"),
+            }
+        }
     }
-    print_read(rt, set, first)?;
-    print_legal(rt, compared.first)?;
-    print_read(rt, set, second)?;
-    print_legal(rt, compared.second)?;
-    print_difference(rt, compared.difference)
 }

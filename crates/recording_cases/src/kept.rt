@@ -1,13 +1,10 @@
 // Tables and recordings kept as files.
 use crate::comparing::print_compared;
-use crate::print::print_refused;
-use jobs::refusal::Check;
 use jobs::set::JobSet;
 use kept_tables::read_file;
 use recording::reading::Recording;
 use std::io;
 use std::rt::Files;
-use streams::print;
 
 fn print_recordings<R: Files + Print>(
     rt: &R,
@@ -29,13 +26,12 @@ pub(crate) fn print_kept<R: Files + Print>(
     first: &[u8],
     second: &[u8],
 ) -> io::Result<()> {
-    let reading = read_file(rt, table)?;
-    let check = reading.check;
-    if let Check::Refused(refusal) = check {
-        print(rt, b"table ")?;
-        print_refused(rt, refusal)?;
-        print(rt, b", ")?;
-    }
-    let set = reading.set;
+    let set = match read_file(rt, table)? {
+        Ok(set) => set,
+        Err(refusal) => {
+            print!(rt; "table {refusal}, ")?;
+            JobSet::empty()
+        }
+    };
     print_recordings(rt, set, first, second)
 }

@@ -4,7 +4,6 @@
 
 mod comparing;
 mod kept;
-mod print;
 
 use crate::kept::print_kept;
 use std::rt::Files;
@@ -14,23 +13,21 @@ use streams::{argument, print};
 // The case that the first four arguments give.
 fn print_case<R: Files + Print>(rt: &R, arguments: &[String]) -> io::Result<()> {
     print(rt, argument(arguments, 0))?;
-    print(rt, b": ")?;
+    print!(rt; ": ")?;
     print_kept(
         rt,
         argument(arguments, 1),
         argument(arguments, 2),
         argument(arguments, 3),
     )?;
-    print(rt, b"\n")
+    print!(rt; "\n")
 }
 
-// Each fourth argument is the last of a case.
+// Arguments left over by four give no case.
 fn main(rt: HostRuntime) -> io::Result<()> {
-    let arguments: Vec<String> = env::args(&rt)?.collect(rt.alloc())?;
-    for i in 1..arguments.len() {
-        if i % 4 == 0 {
-            print_case(&rt, &arguments[i - 3..])?;
-        }
+    let arguments: Vec<String> = env::args(&rt)?.skip(1).collect(rt.alloc())?;
+    for case in arguments.chunks_exact(4) {
+        print_case(&rt, case)?;
     }
     Ok(())
 }

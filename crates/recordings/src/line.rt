@@ -3,7 +3,6 @@ ghost use Rattle.std.specs.Prelude.{◌+◌, ◌≤◌, length};
 ghost use Rattle.laws.proofs.Clipped.{Put};
 ghost use Rattle.recordings.specs.Texts.{legal_line, difference_line, max_compared_text};
 
-use recorders::difference::Difference;
 use texts::bytes::{put_bytes, put_number};
 
 // Whether the recording of a name is legal.
@@ -19,14 +18,16 @@ pub(crate) fn put_legal(name: &[u8], legal: bool, out: &mut [u8], at: usize) -> 
 }
 
 // Where the recordings differ.
-pub(crate) fn put_difference(difference: Difference, out: &mut [u8], at: usize) -> usize
+pub(crate) fn put_difference(difference: Option<u64>, out: &mut [u8], at: usize) -> usize
     requires { at + length (difference_line difference) ≤ max_compared_text }
     ensures { Put out.old at (difference_line difference) out.new result }
 {
-    let tick = at + put_bytes(b"difference,", out, at);
-    if difference.found {
-        let end = tick + put_number(difference.tick, out, tick);
-        return end + put_bytes(b"\r\n", out, end);
+    let word = at + put_bytes(b"difference,", out, at);
+    match difference {
+        Some(tick) => {
+            let end = word + put_number(tick, out, word);
+            end + put_bytes(b"\r\n", out, end)
+        }
+        None => word + put_bytes(b"none\r\n", out, word),
     }
-    tick + put_bytes(b"none\r\n", out, tick)
 }

@@ -13,7 +13,7 @@ use Rattle.laws.proofs.Tabulate.{get_d_tabulate}
 use Rattle.decimal.specs.Digits.{signed}
 use Rattle.decimal.proofs.Values.{decimal-within, signed-within}
 use Rattle.jobs.specs.declared.job.Job.{Job}
-use Rattle.jobs.specs.declared.refusal.Check.TheVariants.{Passed}
+use Rattle.std.specs.Prelude.{Ok}
 use Rattle.jobs.specs.Jobs.{job_at, most_times}
 use Rattle.jobs.specs.Checks.{check_of}
 use Rattle.jobs.proofs.Accepted.{Accepted, accepted}
@@ -37,7 +37,7 @@ small_difference : (d b : ℕ) → d < 10 ^ 11 → b < 10 ^ 11 → nat_abs (pos 
 small_difference d zero h k = omega arith
 small_difference d (suc b) h k = by_test (ltb d (suc b)) (λ t. simp t (omega arith)) (λ t. simp t (omega arith))
 
-module _ (js : List Job) (passed : check_of js ≡ Passed) where
+module _ (js : List Job) (passed : check_of js ≡ Ok tt) where
   ok : Accepted js
   ok = accepted js passed
 

@@ -1,8 +1,8 @@
 -- Rows of integers read back from their text: each row is a line of it, since no row holds a CR, and numbers of few enough digits are its fields.
 -- Assumes nothing.
+use Rattle.std.specs.Prelude.{Some}
 use Prim.Native.Nat.{ℕ, suc, ◌≤◌, max}
 use mathlib.Core.Bool.{true}
-use mathlib.Core.Option.{some}
 use mathlib.Core.List.{List, [], ◌∷◌, ◌++◌, map, append_assoc, append-nil}
 use mathlib.Core.Path.{◌≡◌, refl, sym, ap, ◌∙◌}
 use native.Mathlib.Omega.{arith}
@@ -56,11 +56,11 @@ widest [] = 0
 widest (width ∷ widths) = max width (widest widths)
 
 pub fields_back : (values widths before : List ℕ) → Narrow (map pos values) widths → widest widths ≤ max_digits
-    → fields_in (length values) before (after_commas (map pos values)) ≡ some (before ++ values)
+    → fields_in (length values) before (after_commas (map pos values)) ≡ Some (before ++ values)
 unfolding after_commas signed fields_in
-fields_back [] widths before h few = ap some (sym (append-nil before))
+fields_back [] widths before h few = ap Some (sym (append-nil before))
 fields_back (value ∷ values) [] before h few = absurd h
 fields_back (value ∷ values) (width ∷ widths) before h few =
     field_back (length values) before value (after_commas (map pos values)) (omega (arith, h.0)) (run_commas (map pos values))
     ∙ fields_back values widths (before ++ (value ∷ [])) h.1 (omega arith)
-    ∙ ap some (append_assoc before (value ∷ []) values)
+    ∙ ap Some (append_assoc before (value ∷ []) values)

@@ -1,4 +1,5 @@
 -- The trace text: the numbers that the machine leaves for the most times of an accepted set, read as rows. Assumes nothing.
+use Rattle.std.specs.Prelude.{Result, Ok, Err}
 use Prim.Native.Nat.{ℕ, ◌*◌, ◌≤◌}
 use mathlib.Core.List.{List, [], ◌∷◌, ◌++◌, map, append_assoc, append-nil}
 use mathlib.Core.Path.{◌≡◌, refl, sym, ap, ap₂, ◌∙◌}
@@ -9,7 +10,6 @@ use lib.Seq.{drop_at}
 use Rattle.laws.specs.Words.{tabulate, patched}
 use Rattle.jobs.specs.declared.job.Job.{Job}
 use Rattle.jobs.specs.declared.refusal.Refusal.{Refusal}
-use Rattle.jobs.specs.declared.refusal.Check.TheVariants.{Passed}
 use Rattle.jobs.specs.Limits.{max_jobs}
 use Rattle.jobs.specs.Jobs.{most_times}
 use Rattle.jobs.specs.Checks.{check_of}
@@ -17,7 +17,6 @@ use Rattle.jobs.proofs.Accepted.{accepted}
 use Rattle.theory.specs.Table.{table_of}
 use Rattle.machine.specs.declared.trace.Span.{Span}
 use Rattle.machine.specs.declared.trace.Traced.{Traced}
-use Rattle.machine.specs.declared.trace.Traced.TheVariants.{Entries, Refused as RefusedTrace}
 use Rattle.machine.specs.Runs.{steps_of, row, rows, traced, trace_of, traced_in}
 use Rattle.machine.proofs.Tracing.{rows-length, trace_written, traced-length}
 use Rattle.machine.proofs.MostTimes.{most_passed}
@@ -58,20 +57,20 @@ rows_text : (js : List Job) (ss : List Span) (buffer : List ℕ) → entries_tex
 rows_text js ss buffer = rw (patched-start buffer (rows js ss)) (entries_spans js ss (drop (length (rows js ss)) buffer)) ∙ sym (rows-spans js ss)
 
 -- ---- the machine's answer
-abbrev count_of : Traced → ℕ
-count_of (Entries n steps) = n
-count_of (RefusedTrace r) = 0
+abbrev count_of : Result Traced Refusal → ℕ
+count_of (Ok traced) = traced.entries
+count_of (Err r) = 0
 
 -- the machine has left the trace of the run with all most times
-pub record Ran (js : List Job) (answer : Traced) (numbers : List ℕ) : Type 0 where
-  pub count : answer ≡ Entries (length (traced js (most_times js))) (steps_of (table_of js) (most_times js))
+pub record Ran (js : List Job) (answer : Result Traced Refusal) (numbers : List ℕ) : Type 0 where
+  pub count : answer ≡ Ok (record { entries = length (traced js (most_times js)); steps = steps_of (table_of js) (most_times js) })
   pub few : length (traced js (most_times js)) ≤ 2 * max_jobs
   pub room : 4 * length (traced js (most_times js)) ≤ length numbers
   pub text : entries_text numbers (length (traced js (most_times js))) ≡ entries_text (rows js (traced js (most_times js))) (length (traced js (most_times js)))
 
 -- the most times of an accepted set, and a buffer with room for every trace
-pub most_ran : (js : List Job) → check_of js ≡ Passed → (times : List ℕ) → times ≡ most_times js → (buffer : List ℕ) → 8 * max_jobs ≤ length buffer
-    → {answer : Traced} {numbers : List ℕ} → (answer ≡ trace_of js times (length buffer)) × (numbers ≡ traced_in js times buffer) → Ran js answer numbers
+pub most_ran : (js : List Job) → check_of js ≡ Ok tt → (times : List ℕ) → times ≡ most_times js → (buffer : List ℕ) → 8 * max_jobs ≤ length buffer
+    → {answer : Result Traced Refusal} {numbers : List ℕ} → (answer ≡ trace_of js times (length buffer)) × (numbers ≡ traced_in js times buffer) → Ran js answer numbers
 most_ran js accepts times is buffer room v =
     let most = most_times js in
     let passed = most_passed js accepts in
@@ -86,20 +85,20 @@ most_ran js accepts times is buffer room v =
       text = ap (λ (l : List ℕ). entries_text l (length (traced js most))) numbers_are ∙ rows_text js (traced js most) buffer;
     }
 
-module _ {js : List Job} {answer : Traced} {numbers : List ℕ} (ran : Ran js answer numbers) where
-  pub ran_not_refused : (r : Refusal) → answer ≡ RefusedTrace r → ⊥
+module _ {js : List Job} {answer : Result Traced Refusal} {numbers : List ℕ} (ran : Ran js answer numbers) where
+  pub ran_not_refused : (r : Refusal) → answer ≡ Err r → ⊥
   ran_not_refused r e = entries_not (sym ran.count ∙ e)
     where
-      entries_not : {n steps : ℕ} → Entries n steps ≡ RefusedTrace r → ⊥
+      entries_not : {t : Traced} → ◌≡◌ {A = Result Traced Refusal} (Ok t) (Err r) → ⊥
       entries_not q = let z : ◌≡◌ {A = ℕ} 0 1 = cc in omega arith
 
-  module _ (n steps : ℕ) (e : answer ≡ Entries n steps) where
-    count_is : n ≡ length (traced js (most_times js))
+  module _ (t : Traced) (e : answer ≡ Ok t) where
+    count_is : t.entries ≡ length (traced js (most_times js))
     count_is = ap count_of (sym e ∙ ran.count)
 
-    pub ran_fits : (4 * n ≤ length numbers) × (n ≤ 2 * max_jobs)
+    pub ran_fits : (4 * t.entries ≤ length numbers) × (t.entries ≤ 2 * max_jobs)
     ran_fits = rw count_is (ran.room, ran.few)
 
-    pub ran_text : trace_header ++ entries_text numbers n ≡ trace_text js
+    pub ran_text : trace_header ++ entries_text numbers t.entries ≡ trace_text js
     unfolding trace_text
     ran_text = rw count_is (ap (λ (l : List ℕ). trace_header ++ l) ran.text)

@@ -1,7 +1,7 @@
 -- The texts that are printed. Document 01, "Programs and the C side". Assumes nothing.
-use Rattle.std.specs.Prelude.{ℕ, ◌*◌, ◌≤◌, ◌≡◌, List, [], ◌∷◌, ◌++◌, map, length, get_or, take, drop, ℤ, pos}
+use Rattle.std.specs.Prelude.{ℕ, ◌*◌, ◌≤◌, ◌≡◌, List, [], ◌∷◌, ◌++◌, map, length, get_or, take, drop, ℤ, pos, Ok}
 use Rattle.laws.specs.Words.{tabulate, ascii}
-use Rattle.jobs.specs.declared.{job.Job.Job, refusal.Check.Check}
+use Rattle.jobs.specs.declared.{job.Job.Job}
 use Rattle.jobs.specs.{Limits.max_jobs, Jobs.job_at, Jobs.most_times, Checks.check_of}
 use Rattle.theory.specs.{Table.table_of, Bounds.ert, Bounds.cja, Bounds.itr, Bounds.slacks}
 use Rattle.machine.specs.Runs.{rows, traced}
@@ -42,4 +42,4 @@ max_bytes = 64 * max_jobs
 
 -- `texts_fit`: such a buffer has room for both texts of an accepted set, so that none is refused with 9.
 abbrev pub TextsFit : Type 0
-TextsFit = (js : List Job) → check_of js ≡ Check.Passed → (length (bounds_text js) ≤ max_bytes) × (length (trace_text js) ≤ max_bytes)
+TextsFit = (js : List Job) → check_of js ≡ Ok tt → (length (bounds_text js) ≤ max_bytes) × (length (trace_text js) ≤ max_bytes)

@@ -10,36 +10,29 @@ use crate::columns::write_bytes;
 use crate::rows::{rows_length, write_rows};
 use analysis::answer::Figures;
 use analysis::figures::figures;
-use jobs::refusal::{Check, Refusal};
+use jobs::refusal::Refusal;
 use jobs::set::JobSet;
-use texts::written::Written;
 
 const HEADER: [u8; 29] = *b"chain,job,ert,cja,itr,slack\r\n";
 
 // Writes the header and the rows; the length is worked out first, so that a short buffer stays as it was.
-fn write_bounds(set: JobSet, figures: Figures, out: &mut [u8]) -> Written
+fn write_bounds(set: JobSet, figures: Figures, out: &mut [u8]) -> Result<u32, Refusal>
     requires { set.count ≤ max_jobs }
     ensures { let text = bounds_header ++ lines_text (tabulate 0 set.count (bounds_row set.jobs figures.ert figures.cja figures.itr figures.slacks)) in (result ≡ answer_to text out.old) × (out.new ≡ laws_written text out.old) }
 {
-    let header = HEADER;
-    let length = header.len() + rows_length(set, figures);
+    let length = HEADER.len() + rows_length(set, figures);
     if out.len() < length {
-        return Written::Refused(Refusal::ShortBuffer);
+        return Err(Refusal::ShortBuffer);
     }
-    let at = write_bytes(&header, out, 0);
+    let at = write_bytes(&HEADER, out, 0);
     write_rows(set, figures, out, at);
-    Written::Bytes(length as u32)
+    Ok(length as u32)
 }
 
 // From the text of a table to the text of its bounds: the refusals of reading first, then 9.
-pub fn bounds_text(text: &[u8], out: &mut [u8]) -> Written
+pub fn bounds_text(text: &[u8], out: &mut [u8]) -> Result<u32, Refusal>
     ensures { (result ≡ answer_for bounds_text text.now out.old) × (out.new ≡ left_for bounds_text text.now out.old) }
 {
-    let reading = table::reading::read(text);
-    let check = reading.check;
-    if let Check::Refused(refusal) = check {
-        return Written::Refused(refusal);
-    }
-    let set = reading.set;
-    write_bounds(set, figures(set), out)
+    let set = table::reading::read(text)?;
+    write_bounds(set, figures(set)?, out)
 }

@@ -38,10 +38,8 @@ pub(crate) fn columns_length(values: &[u64]) -> usize
     ensures { let text = drop 1 (after_commas (map pos values.now)) in (result ≡ length text) × (result ≤ 21 * length values.now) }
 {
     let mut sum: usize = 0;
-    let mut k: usize = 0;
-    while k < values.len() {
-        sum += column_length(k, values[k]);
-        k += 1;
+    for (k, value) in values.iter().enumerate() {
+        sum += column_length(k, *value);
     }
     sum
 }
@@ -52,10 +50,8 @@ pub(crate) fn write_columns(values: &[u64], out: &mut [u8], at: usize) -> usize
     ensures { let text = drop 1 (after_commas (map pos values.now)) in (result ≡ at + length text) × (out.new ≡ patched out.old at text) }
 {
     let mut next = at;
-    let mut k: usize = 0;
-    while k < values.len() {
-        next = write_column(k, values[k], out, next);
-        k += 1;
+    for (k, value) in values.iter().enumerate() {
+        next = write_column(k, *value, out, next);
     }
     next
 }

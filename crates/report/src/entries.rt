@@ -13,12 +13,10 @@ pub(crate) fn entries_length(numbers: &[u64], count: usize) -> usize
     ensures { let rows = tabulate 0 count (entry_row numbers.now) in (result ≡ length (lines_text rows)) × (result ≤ 172 * max_jobs) }
 {
     let mut sum: usize = 0;
-    let mut n: usize = 0;
-    while n < count {
+    for n in 0..count {
         let from = 4 * n;
         let to = from + 4;
         sum += line_length(&numbers[from..to]);
-        n += 1;
     }
     sum
 }
@@ -30,12 +28,10 @@ pub(crate) fn write_entries(numbers: &[u64], count: usize, out: &mut [u8], at: u
     ensures { let rows = tabulate 0 count (entry_row numbers.now) in (result ≡ at + length (lines_text rows)) × (out.new ≡ patched out.old at (lines_text rows)) }
 {
     let mut next = at;
-    let mut n: usize = 0;
-    while n < count {
+    for n in 0..count {
         let from = 4 * n;
         let to = from + 4;
         next = write_line(&numbers[from..to], out, next);
-        n += 1;
     }
     next
 }

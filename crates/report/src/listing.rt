@@ -8,11 +8,10 @@ ghost use Rattle.report.specs.Listing.{table_row, table_answer, table_left};
 use crate::columns::{line_length, write_bytes, write_line};
 use jobs::check::check;
 use jobs::job::Job;
-use jobs::refusal::{Check, Refusal};
+use jobs::refusal::Refusal;
 use jobs::set::JobSet;
 use table::header::HEADER;
 use table::line::MAX_COLUMNS;
-use texts::written::Written;
 
 // The numbers and values of a job, in the order of the columns.
 fn job_values(job: Job) -> [u64; MAX_COLUMNS]
@@ -36,11 +35,9 @@ fn jobs_length(set: JobSet) -> usize
 {
     let count = set.count;
     let mut sum: usize = 0;
-    let mut n: usize = 0;
-    while n < count {
+    for n in 0..count {
         let values = job_values(set.jobs[n]);
         sum += line_length(&values);
-        n += 1;
     }
     sum
 }
@@ -53,29 +50,26 @@ fn write_jobs(set: JobSet, out: &mut [u8], at: usize) -> usize
 {
     let count = set.count;
     let mut next = at;
-    let mut n: usize = 0;
-    while n < count {
+    for n in 0..count {
         let values = job_values(set.jobs[n]);
         next = write_line(&values, out, next);
-        n += 1;
     }
     next
 }
 
 // The table of a set: the refusals of the set first, then 9; the length is worked out first, so that a short buffer stays as it was.
-pub fn table_text(set: JobSet, out: &mut [u8]) -> Written
+pub fn table_text(set: JobSet, out: &mut [u8]) -> Result<u32, Refusal>
     ensures { (result ≡ table_answer (jobs_of set) out.old) × (out.new ≡ table_left (jobs_of set) out.old) }
 {
-    if let Check::Refused(refusal) = check(set) {
-        return Written::Refused(refusal);
+    if let Err(refusal) = check(set) {
+        return Err(refusal);
     }
-    let header = HEADER;
-    let length = header.len() + 2 + jobs_length(set);
+    let length = HEADER.len() + 2 + jobs_length(set);
     if out.len() < length {
-        return Written::Refused(Refusal::ShortBuffer);
+        return Err(Refusal::ShortBuffer);
     }
-    let after_header = write_bytes(&header, out, 0);
+    let after_header = write_bytes(&HEADER, out, 0);
     let at = write_bytes(b"\r\n", out, after_header);
     write_jobs(set, out, at);
-    Written::Bytes(length as u32)
+    Ok(length as u32)
 }

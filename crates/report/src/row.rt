@@ -21,12 +21,12 @@ pub struct Row {
 }
 
 // The row of the job at place n, whose bounds and slack stand at that place.
-pub(crate) fn row_of<'a>(
+pub(crate) fn row_of(
     job: Job,
-    ert: &'a [u64; JobSet::MAX_JOBS],
-    cja: &'a [u64; JobSet::MAX_JOBS],
-    itr: &'a [u64; JobSet::MAX_JOBS],
-    slacks: &'a [i64; JobSet::MAX_JOBS],
+    ert: &[u64; JobSet::MAX_JOBS],
+    cja: &[u64; JobSet::MAX_JOBS],
+    itr: &[u64; JobSet::MAX_JOBS],
+    slacks: &[i64; JobSet::MAX_JOBS],
     n: usize,
 ) -> Row
     requires { n < max_jobs }

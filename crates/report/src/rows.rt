@@ -16,8 +16,7 @@ pub(crate) fn rows_length(set: JobSet, figures: Figures) -> usize
 {
     let count = set.count;
     let mut sum: usize = 0;
-    let mut n: usize = 0;
-    while n < count {
+    for n in 0..count {
         let row = row_of(
             set.jobs[n],
             &figures.ert,
@@ -27,7 +26,6 @@ pub(crate) fn rows_length(set: JobSet, figures: Figures) -> usize
             n,
         );
         sum += row_length(row);
-        n += 1;
     }
     sum
 }
@@ -40,8 +38,7 @@ pub(crate) fn write_rows(set: JobSet, figures: Figures, out: &mut [u8], at: usiz
 {
     let count = set.count;
     let mut next = at;
-    let mut n: usize = 0;
-    while n < count {
+    for n in 0..count {
         let row = row_of(
             set.jobs[n],
             &figures.ert,
@@ -51,7 +48,6 @@ pub(crate) fn write_rows(set: JobSet, figures: Figures, out: &mut [u8], at: usiz
             n,
         );
         next = write_row(row, out, next);
-        n += 1;
     }
     next
 }

@@ -9,50 +9,42 @@ ghost use Rattle.texts.specs.Answers.{answer_to, answer_for, left_for};
 use crate::columns::write_bytes;
 use crate::entries::{entries_length, write_entries};
 use jobs::most::most_times;
-use jobs::refusal::{Check, Refusal};
+use jobs::refusal::Refusal;
 use jobs::set::JobSet;
-use machine::trace::{MAX_NUMBERS, Traced, trace};
-use texts::written::Written;
+use machine::trace::{MAX_NUMBERS, trace};
 
 const HEADER: [u8; 19] = *b"chain,job,from,to\r\n";
 
 // Writes the header and the rows; the length is worked out first, so that a short buffer stays as it was.
-fn write_trace(numbers: &[u64], count: usize, out: &mut [u8]) -> Written
+fn write_trace(numbers: &[u64], count: usize, out: &mut [u8]) -> Result<u32, Refusal>
     requires { (4 * count ≤ length numbers.now) × (count ≤ 2 * max_jobs) }
     ensures { let text = trace_header ++ lines_text (tabulate 0 count (entry_row numbers.now)) in (result ≡ answer_to text out.old) × (out.new ≡ laws_written text out.old) }
 {
-    let header = HEADER;
-    let length = header.len() + entries_length(numbers, count);
+    let length = HEADER.len() + entries_length(numbers, count);
     if out.len() < length {
-        return Written::Refused(Refusal::ShortBuffer);
+        return Err(Refusal::ShortBuffer);
     }
-    let at = write_bytes(&header, out, 0);
+    let at = write_bytes(&HEADER, out, 0);
     write_entries(numbers, count, out, at);
-    Written::Bytes(length as u32)
+    Ok(length as u32)
 }
 
 // The trace text of an accepted set; the machine does not refuse its most times.
-fn trace_set(set: JobSet, out: &mut [u8]) -> Written
-    requires { check_of (jobs_of set) ≡ Check.Passed }
+fn trace_set(set: JobSet, out: &mut [u8]) -> Result<u32, Refusal>
+    requires { check_of (jobs_of set) ≡ Ok tt }
     ensures { (result ≡ answer_to (trace_text (jobs_of set)) out.old) × (out.new ≡ laws_written (trace_text (jobs_of set)) out.old) }
 {
     let most = most_times(set);
     let mut numbers = [0u64; MAX_NUMBERS];
     let count = set.count;
-    match trace(set, &most[..count], &mut numbers) {
-        Traced::Refused(refusal) => Written::Refused(refusal),
-        Traced::Entries { entries, .. } => write_trace(&numbers, entries, out),
-    }
+    let traced = trace(set, &most[..count], &mut numbers)?;
+    write_trace(&numbers, traced.entries, out)
 }
 
 // From the text of a table to the text of the run with all most times: the refusals of reading first, then 9.
-pub fn trace_text(text: &[u8], out: &mut [u8]) -> Written
+pub fn trace_text(text: &[u8], out: &mut [u8]) -> Result<u32, Refusal>
     ensures { (result ≡ answer_for trace_text text.now out.old) × (out.new ≡ left_for trace_text text.now out.old) }
 {
-    let reading = table::reading::read(text);
-    let check = reading.check;
-    if let Check::Refused(refusal) = check {
-        return Written::Refused(refusal);
-    }
-    trace_set(reading.set, out)
+    let set = table::reading::read(text)?;
+    trace_set(set, out)
 }

@@ -17,63 +17,55 @@ impl Lines {
     const MAX: usize = 3;
 
     pub const LENGTH: usize = 1 + JobSet::MAX_JOBS;
+
+    fn none() -> Lines {
+        Lines {
+            values: [0; Lines::MAX * Lines::LENGTH],
+            counts: [0; Lines::MAX],
+            begun: 0,
+        }
+    }
+
+    // A digit goes on the number that has begun.
+    fn push_digit(&mut self, digit: u64) {
+        let line = self.begun;
+        if line < Lines::MAX && self.counts[line] < Lines::LENGTH {
+            let at = line * Lines::LENGTH + self.counts[line];
+            self.values[at] = grown(self.values[at], digit);
+        }
+    }
+
+    // A comma and a line feed end a number, a line feed its line too.
+    fn end_number(&mut self, byte: u8) {
+        let line = self.begun;
+        if line < Lines::MAX {
+            if self.counts[line] < Lines::LENGTH {
+                self.counts[line] += 1;
+            }
+            if byte == b'\n' {
+                self.begun += 1;
+            }
+        }
+    }
 }
 
 // A number with one more digit.
 fn grown(value: u64, digit: u64) -> u64 {
-    if value <= 1000000000000 {
-        if digit <= 9 {
-            return 10 * value + digit;
-        }
+    if value <= 1_000_000_000_000 && digit <= 9 {
+        10 * value + digit
+    } else {
+        value
     }
-    value
-}
-
-// A digit goes on the number that has begun.
-fn with_digit(lines: Lines, digit: u64) -> Lines {
-    let line = lines.begun;
-    let mut next = lines;
-    if line < Lines::MAX {
-        let count = lines.counts[line];
-        if count < Lines::LENGTH {
-            let at = line * Lines::LENGTH + count;
-            next.values[at] = grown(lines.values[at], digit);
-        }
-    }
-    next
-}
-
-// A comma and a line feed end a number, a line feed its line too.
-fn with_end(lines: Lines, byte: u8) -> Lines {
-    let line = lines.begun;
-    let mut next = lines;
-    if line < Lines::MAX {
-        let count = lines.counts[line];
-        if count < Lines::LENGTH {
-            next.counts[line] = count + 1;
-        }
-        if byte == b'\n' {
-            next.begun = line + 1;
-        }
-    }
-    next
-}
-
-fn with_byte(lines: Lines, byte: u8) -> Lines {
-    if byte < b'0' {
-        return with_end(lines, byte);
-    }
-    with_digit(lines, (byte - b'0') as u64)
 }
 
 fn lines_in(text: &[u8]) -> Lines {
-    let mut lines = Lines {
-        values: [0; Lines::MAX * Lines::LENGTH],
-        counts: [0; Lines::MAX],
-        begun: 0,
-    };
+    let mut lines = Lines::none();
     for byte in text {
-        lines = with_byte(lines, *byte);
+        if *byte < b'0' {
+            lines.end_number(*byte);
+        } else {
+            lines.push_digit((*byte - b'0') as u64);
+        }
     }
     lines
 }

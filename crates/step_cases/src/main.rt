@@ -4,7 +4,6 @@
 #![tactic(auto)]
 
 mod lines;
-mod print;
 mod steps;
 
 use crate::steps::print_step;
@@ -14,14 +13,11 @@ use streams::{argument, print};
 
 // The first letter of a name tells a table from what goes with it.
 fn print_case<R: Files + Print>(rt: &R, name: &[u8], next: &[u8]) -> io::Result<()> {
-    if name.len() == 0 {
-        return Ok(());
-    }
-    if name[0] == b's' {
+    if name.starts_with(b"s") {
         print(rt, name)?;
-        print(rt, b":")?;
+        print!(rt; ":")?;
         print_step(rt, name, next)?;
-        print(rt, b"\n")?;
+        print!(rt; "\n")?;
     }
     Ok(())
 }

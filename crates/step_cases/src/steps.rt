@@ -1,9 +1,6 @@
 // Single ticks on handed states.
-ghost use Rattle.std.specs.Prelude.{◌≡◌, length};
-ghost use Rattle.jobs.specs.Limits.{max_jobs};
-
 use crate::lines::{Lines, lines_of};
-use crate::print::{print_column, print_number, print_refused};
+use jobs::refusal::Refusal;
 use jobs::set::JobSet;
 use kept_tables::set_of;
 use lent::scan::most_urgent_of;
@@ -15,96 +12,49 @@ use std::io;
 use std::rt::Files;
 use streams::print;
 
-// The first line, of which as many are lent as it has; lending the array needs its length.
-fn times_of(lines: Lines) -> [u64; JobSet::MAX_JOBS]
-    ensures { max_jobs ≡ length result }
-{
-    let mut times = [0u64; JobSet::MAX_JOBS];
-    for i in 0..JobSet::MAX_JOBS {
-        times[i] = lines.values[i];
-    }
-    times
-}
-
-// The second and the third line, which stand as a state's numbers do.
-fn state_of(lines: Lines) -> State {
-    let values = lines.values;
-    state_in(&values[Lines::LENGTH..])
-}
-
-// A job by its chain and number.
-fn print_pair<R: Print>(rt: &R, chain: u64, job: u64) -> io::Result<()> {
-    print_number(rt, chain)?;
-    print_column(rt, job)
-}
-
-fn print_ticked<R: Print>(rt: &R, ticked: Ticked) -> io::Result<()> {
-    print(rt, b" ")?;
+fn print_ticked<R: Print>(rt: &R, ticked: Result<Ticked, Refusal>) -> io::Result<()> {
     match ticked {
-        Ticked::Ran { chain, job } => {
-            print(rt, b"ran ")?;
-            print_pair(rt, chain, job)
-        }
-        Ticked::Idle => print(rt, b"idle"),
-        Ticked::Finished => print(rt, b"finished"),
-        Ticked::Refused(refusal) => print_refused(rt, refusal),
+        Ok(Ticked::Ran { chain, job }) => print!(rt; " ran {chain},{job}"),
+        Ok(Ticked::Idle) => print!(rt; " idle"),
+        Ok(Ticked::Finished) => print!(rt; " finished"),
+        Err(refusal) => print!(rt; " {refusal}"),
     }
-}
-
-fn print_value<R: Print>(rt: &R, values: [u64; JobSet::MAX_JOBS], place: usize) -> io::Result<()> {
-    if place < JobSet::MAX_JOBS {
-        print(rt, b" ")?;
-        print_number(rt, values[place])?;
-    }
-    Ok(())
 }
 
 // The values of the first few jobs.
-fn print_values<R: Print>(rt: &R, values: [u64; JobSet::MAX_JOBS], shown: usize) -> io::Result<()> {
-    for place in 0..shown {
-        print_value(rt, values, place)?;
+fn print_values<R: Print>(rt: &R, values: &[u64], shown: usize) -> io::Result<()> {
+    for value in values.iter().take(shown) {
+        print!(rt; " {value}")?;
     }
     Ok(())
 }
 
 // The time, and the work and the completions of the first few jobs.
-fn print_state<R: Print>(rt: &R, state: State, shown: usize) -> io::Result<()> {
-    print(rt, b", time ")?;
-    print_number(rt, state.time)?;
-    let work = state.work;
-    print(rt, b", work")?;
-    print_values(rt, work, shown)?;
-    let completions = state.completions;
-    print(rt, b", completions")?;
-    print_values(rt, completions, shown)
+fn print_state<R: Print>(rt: &R, state: &State, shown: usize) -> io::Result<()> {
+    let time = state.time;
+    print!(rt; ", time {time}, work")?;
+    print_values(rt, &state.work, shown)?;
+    print!(rt; ", completions")?;
+    print_values(rt, &state.completions, shown)
 }
 
 // The answer of a tick, and the state after it.
-fn print_stepped<R: Print>(rt: &R, stepped: Stepped, shown: usize) -> io::Result<()> {
-    let ticked = stepped.ticked;
-    print_ticked(rt, ticked)?;
-    let state = stepped.state;
-    print_state(rt, state, shown)
+fn print_stepped<R: Print>(rt: &R, stepped: &Stepped, shown: usize) -> io::Result<()> {
+    print_ticked(rt, stepped.ticked)?;
+    print_state(rt, &stepped.state, shown)
 }
 
-// The chain and number of the job at a place.
-fn print_place<R: Print>(rt: &R, set: JobSet, place: usize) -> io::Result<()> {
-    if place < JobSet::MAX_JOBS {
-        let job = set.jobs[place];
-        print(rt, b" ")?;
-        print_pair(rt, job.chain, job.job)?;
+// The most urgent ready job of the lent records by its chain and number, or none.
+fn print_most_urgent<R: Print>(rt: &R, set: JobSet, times: &[u64], state: State) -> io::Result<()> {
+    print!(rt; ", most urgent")?;
+    let Some(best) = most_urgent_of(set, times, state) else {
+        return print!(rt; " none");
+    };
+    if let Some(job) = set.jobs.get(best.at) {
+        let (chain, number) = (job.chain, job.job);
+        print!(rt; " {chain},{number}")?;
     }
     Ok(())
-}
-
-// The most urgent ready job of the lent records, or none.
-fn print_most_urgent<R: Print>(rt: &R, set: JobSet, times: &[u64], state: State) -> io::Result<()> {
-    print(rt, b", most urgent")?;
-    let best = most_urgent_of(set, times, state);
-    if best.found {
-        return print_place(rt, set, best.at);
-    }
-    print(rt, b" none")
 }
 
 // The tick in lent memory; where it is not refused, the most urgent job too.
@@ -116,12 +66,11 @@ fn print_lent<R: Print>(
     shown: usize,
 ) -> io::Result<()> {
     let stepped = tick_kept(state, set, times);
-    print_stepped(rt, stepped, shown)?;
-    let ticked = stepped.ticked;
-    if let Ticked::Refused(_) = ticked {
-        return Ok(());
+    print_stepped(rt, &stepped, shown)?;
+    match stepped.ticked {
+        Ok(_) => print_most_urgent(rt, set, times, state),
+        Err(_) => Ok(()),
     }
-    print_most_urgent(rt, set, times, state)
 }
 
 // One tick by value and, on a line of its own, one in lent memory.
@@ -133,14 +82,15 @@ fn print_ticks<R: Print>(
     state: State,
     shown: usize,
 ) -> io::Result<()> {
-    print_stepped(rt, step(state, set, times), shown)?;
-    print(rt, b"\n")?;
+    print_stepped(rt, &step(state, set, times), shown)?;
+    print!(rt; "\n")?;
     print(rt, name)?;
-    print(rt, b", lent:")?;
+    print!(rt; ", lent:")?;
     print_lent(rt, set, times, state, shown)
 }
 
-// The table of one file; running times and the state from another. As many jobs of the state are printed as the second line has work of.
+// The table of one file; the running times are the first line of another, and the second and third stand as a state's numbers do.
+// As many jobs of the state are printed as the second line has work of.
 pub(crate) fn print_step<R: Files + Print>(
     rt: &R,
     name: &[u8],
@@ -148,14 +98,10 @@ pub(crate) fn print_step<R: Files + Print>(
 ) -> io::Result<()> {
     let set = set_of(rt, name)?;
     let lines = lines_of(rt, lines_name)?;
-    let count = lines.counts[0];
-    let handed = lines.counts[1];
-    let state = state_of(lines);
-    let times = times_of(lines);
-    if 0 < handed {
-        if count <= JobSet::MAX_JOBS {
-            print_ticks(rt, name, set, &times[..count], state, handed - 1)?;
-        }
+    let (count, handed) = (lines.counts[0], lines.counts[1]);
+    if 0 < handed && count <= JobSet::MAX_JOBS {
+        let state = state_in(&lines.values[Lines::LENGTH..]);
+        print_ticks(rt, name, set, &lines.values[..count], state, handed - 1)?;
     }
     Ok(())
 }

@@ -13,6 +13,7 @@ pub fn read_full<R: Read>(reader: &mut R, buffer: &mut [u8]) -> io::Result<usize
     ensures { IfOk result (λ count. count ≤ length buffer.new) }
 {
     let mut done = 0;
+    // How much a read brings the reader says, so that no range counts the turns.
     while done < buffer.len() {
         let count = reader.read(&mut buffer[done..])?;
         if count == 0 {

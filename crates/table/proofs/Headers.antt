@@ -1,34 +1,43 @@
 -- A text that starts with a header: byte by byte, and as its first line. Assumes nothing.
+use Rattle.std.specs.Prelude.{Some, None}
 use Prim.Native.Nat.{ℕ, ◌+◌, ◌≤◌, ◌<◌}
 use mathlib.Core.Bool.{true, false, cond}
 use mathlib.Core.List.{List, [], ◌∷◌, ◌++◌}
 use mathlib.Core.Path.{◌≡◌, sym, ap, ◌∙◌}
 use mathlib.Core.Logic.{◌≢◌}
 use native.Mathlib.Omega.{arith}
-use lib.ListN.{length, get_or, take, drop, length-append, length-take, length-drop, take-append-drop}
+use lib.ListN.{length, take, drop, length-append, length-take, length-drop, take-append-drop}
 use lib.Seq.{take-append_seam}
 use lib.Dec.{leb, eqb}
-use borrow.Author.Tests.{le-leb, lt-leb, leb-true, eq-eqb, ne_eqb, eqb-true, eqb-false}
+use borrow.Author.Tests.{le-leb, leb-true, eq-eqb, ne_eqb, eqb-true, eqb-false}
 use Rattle.laws.specs.Words.{same_up_to}
 use Rattle.laws.proofs.Tests.{by_test, both_ways, never_true, and_left, and_right, and_both}
-use Rattle.laws.proofs.Same.{same_not, same_whole, same_front, front_same}
+use Rattle.laws.proofs.Same.{same_whole, same_front, front_same}
 use Rattle.laws.proofs.Lines.{first_line, after_line, line_length, line_within, after-within, after-drop, first_take}
 use Rattle.decimal.proofs.Absence.{lacks}
-use Rattle.table.specs.declared.line.End.TheVariants.{Here, Elsewhere}
 use Rattle.table.specs.Lines.{lines_of, is_line, under, end_of, starts_with, end_behind}
 use Rattle.table.proofs.Lines.{lines_cons, end-within}
 use Rattle.table.proofs.PlainLines.{goes_on}
 
--- ---- byte by byte
+-- ---- with the front taken off, and byte by byte
+-- a text that starts with the prefix is the prefix and what is behind it
+front_whole : (prefix text : List ℕ) → starts_with prefix text ≡ true → prefix ++ drop (length prefix) text ≡ text
+front_whole prefix text e =
+    let fits = leb (length prefix) (length text) in
+    let same = same_up_to (length prefix) text prefix in
+    let front : take (length prefix) text ≡ prefix = same_front text prefix (leb-true _ _ (and_left fits same e)) (and_right fits same e) in
+    ap (λ (l : List ℕ). l ++ drop (length prefix) text) (sym front) ∙ take-append-drop (length prefix) text
+
 module _ (prefix text : List ℕ) where
-  pub prefix_done : length prefix ≤ length text → same_up_to (length prefix) text prefix ≡ true → starts_with prefix text ≡ true
+  prefix_done : length prefix ≤ length text → same_up_to (length prefix) text prefix ≡ true → starts_with prefix text ≡ true
   prefix_done h e = and_both _ _ (le-leb (length prefix) (length text) h) e
 
-  pub prefix_short : length text < length prefix → starts_with prefix text ≡ false
-  prefix_short h = rw (lt-leb (length prefix) (length text) h)
+  pub prefix_off : (rest : List ℕ) → text ≡ prefix ++ rest → starts_with prefix text ≡ true
+  prefix_off rest e =
+      prefix_done (omega (arith, ap length e, length-append prefix rest)) (front_same text prefix (ap (take (length prefix)) e ∙ take-append_seam prefix rest))
 
-  pub prefix_differs : (i : ℕ) → i < length prefix → get_or text i 0 ≢ get_or prefix i 0 → starts_with prefix text ≡ false
-  prefix_differs i h ne = never_true _ (λ e. both_ways (and_right (leb (length prefix) (length text)) (same_up_to (length prefix) text prefix) e) (same_not (length prefix) text prefix i h ne))
+  pub prefix_other : ((rest : List ℕ) → text ≢ prefix ++ rest) → starts_with prefix text ≡ false
+  prefix_other h = never_true _ (λ e. h (drop (length prefix) text) (sym (front_whole prefix text e)))
 
 -- ---- as the first line; the prefix holds no CR
 -- a line that starts with the prefix is the prefix where nothing follows
@@ -52,8 +61,7 @@ starts prefix text n e =
     let fits = leb (length prefix) (length text) in
     let same = same_up_to (length prefix) text prefix in
     let short : length prefix ≤ length text = leb-true _ _ (and_left fits same e) in
-    let front : take (length prefix) text ≡ prefix = same_front text prefix short (and_right fits same e) in
-    let whole : prefix ++ rest ≡ text = ap (λ (l : List ℕ). l ++ rest) (sym front) ∙ take-append-drop (length prefix) text in
+    let whole : prefix ++ rest ≡ text = front_whole prefix text e in
     let r = goes_on prefix rest n in
     record {
       within = short;
@@ -72,7 +80,7 @@ line_starts prefix text e =
 
 -- ---- the line ends behind the prefix, or elsewhere
 module _ (prefix text : List ℕ) where
-  pub behind_not : starts_with prefix text ≡ false → Elsewhere ≡ end_behind prefix text
+  pub behind_not : starts_with prefix text ≡ false → None ≡ end_behind prefix text
   unfolding end_behind
   behind_not e = rw e
 
@@ -80,19 +88,19 @@ module _ (prefix text : List ℕ) where
     pub prefix_within : length prefix ≤ length text
     prefix_within = leb-true _ _ (and_left (leb (length prefix) (length text)) (same_up_to (length prefix) text prefix) e)
 
-    pub behind_room : (n : ℕ) → end_of (drop (length prefix) text) ≡ Here n → length prefix + n ≤ length text
+    pub behind_room : (n : ℕ) → end_of (drop (length prefix) text) ≡ Some n → length prefix + n ≤ length text
     behind_room n f = omega (arith, prefix_within, end-within (drop (length prefix) text) n f, length-drop (length prefix) text)
 
-    pub behind_here : (n : ℕ) → end_of (drop (length prefix) text) ≡ Here n → Here (length prefix + n) ≡ end_behind prefix text
+    pub behind_here : (n : ℕ) → end_of (drop (length prefix) text) ≡ Some n → Some (length prefix + n) ≡ end_behind prefix text
     unfolding end_behind
     behind_here n f = rw (e, f)
 
-    pub behind-longer : end_of (drop (length prefix) text) ≡ Elsewhere → Elsewhere ≡ end_behind prefix text
+    pub behind-longer : end_of (drop (length prefix) text) ≡ None → None ≡ end_behind prefix text
     unfolding end_behind
     behind-longer f = rw (e, f)
 
 -- ---- so that a prefix that holds no CR is the first line
-pub behind_line : (prefix text : List ℕ) → lacks 13 prefix ≡ true → end_behind prefix text ≡ cond (is_line prefix (first_line text)) (Here (line_length text)) Elsewhere
+pub behind_line : (prefix text : List ℕ) → lacks 13 prefix ≡ true → end_behind prefix text ≡ cond (is_line prefix (first_line text)) (Some (line_length text)) None
 behind_line prefix text plain =
     by_test (starts_with prefix text)
     (λ e.
@@ -100,7 +108,7 @@ behind_line prefix text plain =
     let rest = drop (length prefix) text in
     let whole : length prefix + line_length rest ≡ line_length text = omega (arith, s.within, ap length s.after, length-drop (length prefix) text, after-within rest) in
     by_test (eqb (length (first_line rest)) 0)
-    (λ t. sym (behind_here prefix text e (line_length rest) (rw t)) ∙ ap Here whole ∙ sym (rw (s.line ∙ t)))
+    (λ t. sym (behind_here prefix text e (line_length rest) (rw t)) ∙ ap Some whole ∙ sym (rw (s.line ∙ t)))
     (λ t. sym (behind-longer prefix text e (rw t)) ∙ sym (rw (s.line ∙ t))))
     (λ e. sym (behind_not prefix text e) ∙ sym (rw (never_true (is_line prefix (first_line text)) (λ t. both_ways (line_starts prefix text t) e))))
 
@@ -111,13 +119,13 @@ module _ {A : Type 0} (header : List ℕ) (some : 0 < length header) (plain : la
   under_first [] = sym (rw (ne_eqb 0 (length header) (λ z. omega arith)))
   under_first (b ∷ text) = rw (lines_cons b text)
 
-  pub under_not : (text : List ℕ) → end_behind header text ≡ Elsewhere → otherwise ≡ under header (lines_of text) answer otherwise
+  pub under_not : (text : List ℕ) → end_behind header text ≡ None → otherwise ≡ under header (lines_of text) answer otherwise
   under_not text e =
       by_test (is_line header (first_line text))
       (λ t. let z : ◌≡◌ {A = ℕ} 0 1 = cc (rw t at (sym (behind_line header text plain) ∙ e)) in absurd (omega arith))
       (λ t. sym (under_first text ∙ rw t))
 
-  pub under_here : (text : List ℕ) (n : ℕ) → end_behind header text ≡ Here n → (n ≤ length text) × (answer (lines_of (drop n text)) ≡ under header (lines_of text) answer otherwise)
+  pub under_here : (text : List ℕ) (n : ℕ) → end_behind header text ≡ Some n → (n ≤ length text) × (answer (lines_of (drop n text)) ≡ under header (lines_of text) answer otherwise)
   under_here text n e =
       by_test (is_line header (first_line text))
       (λ t.

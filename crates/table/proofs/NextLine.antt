@@ -1,7 +1,7 @@
 -- The next line of a text that is read line by line, and what reading it says. Assumes nothing.
 --   FieldsOf   a line that was read as so many fields
+use Rattle.std.specs.Prelude.{Option, None, Some, Result, Ok, Err}
 use Prim.Native.Nat.{ℕ, suc, ◌+◌, ◌≤◌, ◌<◌}
-use mathlib.Core.Option.{Option, none, some}
 use mathlib.Core.List.{List, ◌∷◌}
 use mathlib.Core.Path.{◌≡◌, refl, sym, ap, ◌∙◌}
 use native.Mathlib.Omega.{arith}
@@ -12,7 +12,6 @@ use Rattle.laws.specs.Words.{padded}
 use Rattle.laws.proofs.Lines.{first_line, after_line, line_length, line_within, line_some, after-drop}
 use Rattle.jobs.specs.declared.refusal.Refusal.{Refusal}
 use Rattle.jobs.specs.declared.refusal.Refusal.TheVariants.{MalformedLine}
-use Rattle.jobs.specs.declared.refusal.Check.TheVariants.{Passed, Refused}
 use Rattle.table.specs.declared.line.Line.{Line}
 use Rattle.table.specs.Lines.{lines_of, max_columns, row_of, line_with, line_of}
 use Rattle.table.proofs.Lines.{lines_cons}
@@ -39,27 +38,28 @@ module _ (rest : List ℕ) (at : ℕ) (here : at < length rest) where
 -- ---- what reading it says
 pub record FieldsOf (columns : ℕ) (line : Line) (text : List ℕ) : Type 0 where
   pub fields : List ℕ
-  pub row : row_of columns (first_line text) ≡ some fields
+  pub row : row_of columns (first_line text) ≡ Some fields
   pub padding : line.values ≡ padded max_columns 0 fields
   pub taken : line.length ≡ line_length text
 
-passed_by : (columns : ℕ) (r : Option (List ℕ)) (text : List ℕ) → row_of columns (first_line text) ≡ r → (line : Line) → line ≡ line_with r (line_length text) → line.check ≡ Passed → FieldsOf columns line text
-passed_by columns (some values) text e line f p =
-    record { fields = values; row = e; padding = ap (λ (l : Line). l.values) f; taken = ap (λ (l : Line). l.length) f }
-passed_by columns none text e line f p = let z : ◌≡◌ {A = ℕ} 0 1 = cc (ap (λ (l : Line). l.check) f) in absurd (omega arith)
+read_by : (columns : ℕ) (r : Option (List ℕ)) (text : List ℕ) → row_of columns (first_line text) ≡ r → (line : Line) → Ok line ≡ line_with r (line_length text) → FieldsOf columns line text
+read_by columns (Some values) text e line f =
+    let g : line ≡ record { values = padded max_columns 0 values; length = line_length text } = cc in
+    record { fields = values; row = e; padding = ap (λ (l : Line). l.values) g; taken = ap (λ (l : Line). l.length) g }
+read_by columns None text e line f = let z : ◌≡◌ {A = ℕ} 0 1 = cc in absurd (omega arith)
 
-refused_by : (columns : ℕ) (r : Option (List ℕ)) (text : List ℕ) → row_of columns (first_line text) ≡ r → (line : Line) → line ≡ line_with r (line_length text) → (x : Refusal) → line.check ≡ Refused x
-    → (row_of columns (first_line text) ≡ none) × (MalformedLine ≡ x)
-refused_by columns (some values) text e line f x p = let z : ◌≡◌ {A = ℕ} 0 1 = cc (ap (λ (l : Line). l.check) f) in absurd (omega arith)
-refused_by columns none text e line f x p = (e, cc (ap (λ (l : Line). l.check) f))
+refused_by : (columns : ℕ) (r : Option (List ℕ)) (text : List ℕ) → row_of columns (first_line text) ≡ r → (x : Refusal) → Err x ≡ line_with r (line_length text)
+    → (row_of columns (first_line text) ≡ None) × (MalformedLine ≡ x)
+refused_by columns (Some values) text e x f = let z : ◌≡◌ {A = ℕ} 0 1 = cc in absurd (omega arith)
+refused_by columns None text e x f = (e, cc)
 
-module _ (columns : ℕ) (few : columns ≤ max_columns) {line : Line} (text : List ℕ) (is : line ≡ line_of columns text) where
-  by_row : line ≡ line_with (row_of columns (first_line text)) (line_length text)
+module _ (columns : ℕ) (few : columns ≤ max_columns) {answer : Result Line Refusal} (text : List ℕ) (is : answer ≡ line_of columns text) where
+  by_row : answer ≡ line_with (row_of columns (first_line text)) (line_length text)
   unfolding line_of
   by_row = is ∙ rw (le-leb columns max_columns few)
 
-  pub line_passed : line.check ≡ Passed → FieldsOf columns line text
-  line_passed = passed_by columns (row_of columns (first_line text)) text refl line by_row
+  pub line_read : (line : Line) → answer ≡ Ok line → FieldsOf columns line text
+  line_read line e = read_by columns (row_of columns (first_line text)) text refl line (sym e ∙ by_row)
 
-  pub line_refused : (x : Refusal) → line.check ≡ Refused x → (row_of columns (first_line text) ≡ none) × (MalformedLine ≡ x)
-  line_refused = refused_by columns (row_of columns (first_line text)) text refl line by_row
+  pub line_refused : (x : Refusal) → answer ≡ Err x → (row_of columns (first_line text) ≡ None) × (MalformedLine ≡ x)
+  line_refused x e = refused_by columns (row_of columns (first_line text)) text refl x (sym e ∙ by_row)

@@ -17,14 +17,15 @@ use Rattle.decimal.proofs.RoundTrip.{round_trip}
 use Rattle.decimal.proofs.Absence.{lacks}
 use Rattle.jobs.specs.declared.job.Job.{Job}
 use Rattle.jobs.specs.declared.refusal.Refusal.TheVariants.{TextTooLong, NotHeader}
-use Rattle.jobs.specs.declared.refusal.Check.TheVariants.{Passed}
+use Rattle.std.specs.Prelude.{Result, Ok, Err}
 use Rattle.jobs.specs.Refusals.{on_pass}
 use Rattle.jobs.specs.Jobs.{set_of, job_at}
 use Rattle.jobs.specs.Checks.{records_check, any_record}
 use Rattle.jobs.proofs.Checks.{then_first, then_second, next_check}
-use Rattle.table.specs.declared.reading.Reading.{Reading}
+use Rattle.jobs.specs.declared.set.JobSet.{JobSet}
+use Rattle.jobs.specs.declared.refusal.Refusal.{Refusal}
 use Rattle.table.specs.Lines.{lines_of, max_columns, fields_in, row_of, is_line}
-use Rattle.table.specs.Tables.{header, max_text, refused_with, records_from, under_header, reading_of}
+use Rattle.table.specs.Tables.{header, max_text, records_from, under_header, reading_of}
 use Rattle.table.proofs.Records.{then_row}
 use Rattle.table.proofs.PlainLines.{lines_plain}
 
@@ -38,17 +39,17 @@ field_back k before value rest h e =
 -- ---- records
 -- a line that is the record of a job
 abbrev pub Tells : List ℕ → Job → Type 0
-Tells line j = (rest : Job → Reading) → then_row (row_of max_columns line) rest ≡ rest j
+Tells line j = (rest : Job → Result JobSet Refusal) → then_row (row_of max_columns line) rest ≡ rest j
 
 -- what follows the record of a job
-abbrev following : List Job → List (List ℕ) → Job → Reading
-following before lines j = on_pass (next_check before j) refused_with (records_from (before ++ (j ∷ [])) lines)
+abbrev following : List Job → List (List ℕ) → Job → Result JobSet Refusal
+following before lines j = on_pass (next_check before j) Err (records_from (before ++ (j ∷ [])) lines)
 
 -- what records that all passed are read as
-abbrev read_as : List Job → Reading
-read_as js = record { check = any_record js; set = set_of js }
+abbrev read_as : List Job → Result JobSet Refusal
+read_as js = on_pass (any_record js) Err (Ok (set_of js))
 
-pub records_back : (line_of : Job → List ℕ) (before js : List Job) → ((i : ℕ) → i < length js → Tells (line_of (job_at js i)) (job_at js i)) → records_check before js ≡ Passed
+pub records_back : (line_of : Job → List ℕ) (before js : List Job) → ((i : ℕ) → i < length js → Tells (line_of (job_at js i)) (job_at js i)) → records_check before js ≡ Ok tt
     → records_from before (map line_of js) ≡ read_as (before ++ js)
 unfolding records_from records_check
 records_back line_of before [] h e = ap read_as (sym (append-nil before))
@@ -68,6 +69,6 @@ pub header_back : (rest : List ℕ) → length (header ++ ascii "\r\n" ++ rest) 
 unfolding reading_of lacks
 header_back rest short =
     let text = header ++ ascii "\r\n" ++ rest in
-    ap (λ (b : Bool). cond b (under_header (lines_of text)) (refused_with TextTooLong)) (le-leb (length text) max_text short)
+    ap (λ (b : Bool). cond b (under_header (lines_of text)) (Err TextTooLong)) (le-leb (length text) max_text short)
     ∙ ap under_header (lines_plain header rest refl)
-    ∙ ap (λ (b : Bool). cond b (records_from [] (lines_of rest)) (refused_with NotHeader)) (same_line header)
+    ∙ ap (λ (b : Bool). cond b (records_from [] (lines_of rest)) (Err NotHeader)) (same_line header)

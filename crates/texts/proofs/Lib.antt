@@ -1,4 +1,3 @@
-pub mod Copying
 pub mod WordDigits
 pub mod Wholes
 pub mod TextAnswers

@@ -1,33 +1,17 @@
 // Bytes and numbers at a place of a buffer that may have no room for all of them.
-ghost use Rattle.std.specs.Prelude.{◌≡◌, ◌-◌, min, length};
+ghost use Rattle.std.specs.Prelude.{◌≡◌, length};
 ghost use Rattle.laws.specs.Words.{clipped};
 ghost use Rattle.decimal.specs.Digits.{decimal};
 
 use decimal::unsigned::write_unsigned;
 
-// How many of the elements fit into a buffer with that much room from the place on.
-fn fitting(length: usize, room: usize, at: usize) -> usize
-    ensures { result ≡ min length (room - at) }
-{
-    if room <= at {
-        return 0;
-    }
-    let left = room - at;
-    if length < left {
-        return length;
-    }
-    left
-}
-
 // Writes as much of bytes from the place `at` on as the buffer has room for, and answers how many bytes there are.
 pub fn put_bytes(bytes: &[u8], out: &mut [u8], at: usize) -> usize
     ensures { (result ≡ length bytes.now) × (out.new ≡ clipped out.old at bytes.now) }
 {
-    let count = fitting(bytes.len(), out.len(), at);
-    let mut i: usize = 0;
-    while i < count {
-        out[at + i] = bytes[i];
-        i += 1;
+    let count = bytes.len().min(out.len().saturating_sub(at));
+    if 0 < count {
+        out[at..at + count].copy_from_slice(&bytes[..count]);
     }
     bytes.len()
 }

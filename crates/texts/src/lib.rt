@@ -3,4 +3,4 @@
 
 pub mod bytes;
 pub mod refused;
-pub mod written;
+pub mod whole;

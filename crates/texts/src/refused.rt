@@ -4,7 +4,6 @@ ghost use Rattle.laws.specs.Words.{written, written_length};
 ghost use Rattle.texts.specs.Answers.{refused_text, print_length, print_left};
 
 use crate::bytes::{put_bytes, put_number};
-use crate::written::Written;
 use decimal::count::digit_count;
 use jobs::refusal::Refusal;
 
@@ -22,11 +21,11 @@ pub fn write_refused(refusal: Refusal, out: &mut [u8]) -> usize
 }
 
 // How many bytes of the buffer a program prints: the text in it, or the line of a refusal, which is written first.
-pub fn ready_to_print(answer: Written, out: &mut [u8]) -> u32
+pub fn ready_to_print(answer: Result<u32, Refusal>, out: &mut [u8]) -> u32
     ensures { (result ≡ print_length answer out.old) × (out.new ≡ print_left answer out.old) }
 {
     match answer {
-        Written::Bytes(bytes) => bytes,
-        Written::Refused(refusal) => write_refused(refusal, out) as u32,
+        Ok(bytes) => bytes,
+        Err(refusal) => write_refused(refusal, out) as u32,
     }
 }

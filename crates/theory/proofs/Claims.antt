@@ -9,7 +9,7 @@ use native.Mathlib.Nat.{zero-add}
 use Rattle.laws.specs.Words.{number_at, tabulate}
 use Rattle.laws.proofs.Tabulate.{length-tabulate, get_d_tabulate}
 use Rattle.jobs.specs.declared.job.Job.{Job}
-use Rattle.jobs.specs.declared.refusal.Check.TheVariants.{Passed}
+use Rattle.std.specs.Prelude.{Ok}
 use Rattle.jobs.specs.Limits.{max_jobs, max_release, max_time}
 use Rattle.jobs.specs.Checks.{check_of}
 use Rattle.jobs.proofs.Accepted.{accepted}
@@ -56,7 +56,7 @@ choice t well =
       releases-to t t.earliest (record { early = λ u l. omega arith; late = λ u l. well.releases u l }),
     )
 
-ert_limited : (js : List Job) → check_of js ≡ Passed → (i : ℕ) → i < (table_of js).count → number_at (ert (table_of js)) i < bound_limit
+ert_limited : (js : List Job) → check_of js ≡ Ok tt → (i : ℕ) → i < (table_of js).count → number_at (ert (table_of js)) i < bound_limit
 ert_limited js passed i l =
     let ok = accepted js passed in
     let limit : 4 * (max_release + max_jobs * max_time) + suc max_jobs * suc max_jobs * max_time < 4 * bound_limit = lit< tt in
@@ -90,7 +90,7 @@ pub record Limited (t : Table) : Type 0 where
   pub by_cja : (i : ℕ) → i < t.count → number_at (cja t) i < bound_limit
   pub by_itr : (i : ℕ) → i < t.count → number_at (itr t).bounds i < bound_limit
 
-pub all_limited : (js : List Job) → check_of js ≡ Passed → Limited (table_of js)
+pub all_limited : (js : List Job) → check_of js ≡ Ok tt → Limited (table_of js)
 all_limited js passed =
     let all = claims js passed in
     record {
@@ -100,9 +100,9 @@ all_limited js passed =
     }
 
 -- ---- one chain taken off a list of jobs
-pub chain_taken_off : (c : ℕ) (js : List Job) → check_of js ≡ Passed → Compared ◌≤◌ (table_of (without_chain c js)) (table_of js) (old_place c js)
+pub chain_taken_off : (c : ℕ) (js : List Job) → check_of js ≡ Ok tt → Compared ◌≤◌ (table_of (without_chain c js)) (table_of js) (old_place c js)
 chain_taken_off c js passed = removal_no_later c js (accepted_ordered js (accepted js passed))
 
-pub least_urgent_chain : (c : ℕ) (js : List Job) → check_of js ≡ Passed → LeastUrgent c js
+pub least_urgent_chain : (c : ℕ) (js : List Job) → check_of js ≡ Ok tt → LeastUrgent c js
     → Compared ◌≡◌ (table_of (without_chain c js)) (table_of js) (old_place c js)
 least_urgent_chain c js passed = removal_unmoved c js (accepted_ordered js (accepted js passed))

@@ -1,7 +1,7 @@
 -- What is proved of every accepted set; proofs/Claims has the proof of all. Document 01, "The runs of demand 3". Assumes nothing.
-use Rattle.std.specs.Prelude.{ℕ, zero, suc, ◌+◌, ◌≤◌, ◌<◌, max, ◌≡◌, ◌≢◌, true, List, length}
+use Rattle.std.specs.Prelude.{ℕ, zero, suc, ◌+◌, ◌≤◌, ◌<◌, max, ◌≡◌, ◌≢◌, true, List, length, Ok}
 use Rattle.laws.specs.Words.{number_at}
-use Rattle.jobs.specs.{declared.job.Job.Job, declared.refusal.Check.Check, Checks.check_of}
+use Rattle.jobs.specs.{declared.job.Job.Job, Checks.check_of}
 use Rattle.theory.specs.{Table.Table, Table.table_of, Bounds.ert, Bounds.cja, Bounds.bound_limit, Bounds.round, Bounds.after, Bounds.Answer, Bounds.round_limit, Bounds.overlap, Bounds.itr, Delays.ert_delay, Delays.cja_delay, Delays.itr_delay, Delays.ByErt, Delays.ByPair, Runs.Entry, Runs.times_fit, Runs.releases_fit, Runs.is_run, Runs.CompleteBy}
 
 -- The job at a place of the table is not of the part.
@@ -98,4 +98,4 @@ pub record Claims (t : Table) : Type 0 where
 
 -- The claims hold of every accepted list of jobs: no number of checking a set handed by value applies to it.
 abbrev pub EveryAccepted : Type 0
-EveryAccepted = (js : List Job) → check_of js ≡ Check.Passed → Claims (table_of js)
+EveryAccepted = (js : List Job) → check_of js ≡ Ok tt → Claims (table_of js)

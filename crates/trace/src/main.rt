@@ -4,16 +4,9 @@
 use report::room::MAX_BYTES;
 use report::trace::trace_text;
 use std::io;
-use streams::{front, print, read_full};
-use table::reading::MAX_TEXT;
-use texts::refused::ready_to_print;
+use table_programs::print_written;
 
-// A buffer of one byte more than the limit tells a text that is too long.
 fn main(rt: HostRuntime) -> io::Result<()> {
-    let mut text = [0u8; MAX_TEXT + 1];
-    let length = read_full(&mut rt.reader(), &mut text)?;
     let mut out = [0u8; MAX_BYTES];
-    let answer = trace_text(&text[..length], &mut out);
-    let length = ready_to_print(answer, &mut out) as usize;
-    print(&rt, front(&out, length))
+    print_written(&rt, trace_text, &mut out)
 }

@@ -1,12 +1,10 @@
 // Traces into buffers at the edge of refusal 9.
-use crate::print::{print_number, print_refused};
 use jobs::most::most_times;
 use jobs::set::JobSet;
 use kept_tables::set_of;
 use machine::trace::{MAX_NUMBERS, Traced, trace};
 use std::io;
 use std::rt::Files;
-use streams::print;
 
 // How long the buffer is, what a trace into it answers, and the first number that it then holds.
 fn print_traced<R: Print>(
@@ -15,21 +13,16 @@ fn print_traced<R: Print>(
     times: &[u64],
     numbers: &mut [u64],
 ) -> io::Result<()> {
-    print(rt, b" ")?;
-    print_number(rt, numbers.len() as u64)?;
-    print(rt, b" numbers ")?;
+    let room = numbers.len();
+    print!(rt; " {room} numbers ")?;
     match trace(set, times, numbers) {
-        Traced::Refused(refusal) => print_refused(rt, refusal)?,
-        Traced::Entries { entries, .. } => {
-            print_number(rt, entries as u64)?;
-            print(rt, b" entries")?;
-        }
+        Err(refusal) => print!(rt; "{refusal}")?,
+        Ok(Traced { entries, .. }) => print!(rt; "{entries} entries")?,
     }
-    if 0 < numbers.len() {
-        print(rt, b", first ")?;
-        print_number(rt, numbers[0])?;
+    if let Some(first) = numbers.first() {
+        print!(rt; ", first {first}")?;
     }
-    print(rt, b";")
+    print!(rt; ";")
 }
 
 // A trace into a buffer of this many numbers, each of them 7 before.
@@ -44,11 +37,9 @@ fn print_into<R: Print>(rt: &R, set: JobSet, times: &[u64], room: usize) -> io::
 // Eight numbers for each job are enough, one fewer is not.
 fn print_sides<R: Print>(rt: &R, set: JobSet, times: &[u64]) -> io::Result<()> {
     let count = times.len();
-    if 0 < count {
-        if count <= JobSet::MAX_JOBS {
-            print_into(rt, set, times, 8 * count - 1)?;
-            print_into(rt, set, times, 8 * count)?;
-        }
+    if 0 < count && count <= JobSet::MAX_JOBS {
+        print_into(rt, set, times, 8 * count - 1)?;
+        print_into(rt, set, times, 8 * count)?;
     }
     Ok(())
 }
@@ -56,9 +47,8 @@ fn print_sides<R: Print>(rt: &R, set: JobSet, times: &[u64]) -> io::Result<()> {
 pub(crate) fn print_edge<R: Files + Print>(rt: &R, name: &[u8]) -> io::Result<()> {
     let set = set_of(rt, name)?;
     let times = most_times(set);
-    let count = set.count;
-    if count <= JobSet::MAX_JOBS {
-        print_sides(rt, set, &times[..count])?;
+    if set.count <= JobSet::MAX_JOBS {
+        print_sides(rt, set, &times[..set.count])?;
     }
     Ok(())
 }

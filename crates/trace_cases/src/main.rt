@@ -4,7 +4,6 @@
 #![tactic(auto)]
 
 mod edges;
-mod print;
 mod traces;
 
 use crate::edges::print_edge;
@@ -15,17 +14,17 @@ use streams::{argument, print};
 
 // The first letter of the name tells what is asked.
 fn print_case<R: Files + Print>(rt: &R, name: &[u8]) -> io::Result<()> {
-    if name.len() == 0 {
+    if name.is_empty() {
         return Ok(());
     }
     print(rt, name)?;
-    print(rt, b":")?;
-    if name[0] == b't' {
+    print!(rt; ":")?;
+    if name.starts_with(b"t") {
         print_trace(rt, name)?;
     } else {
         print_edge(rt, name)?;
     }
-    print(rt, b"\n")
+    print!(rt; "\n")
 }
 
 fn main(rt: HostRuntime) -> io::Result<()> {

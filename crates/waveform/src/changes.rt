@@ -49,12 +49,10 @@ pub(crate) fn put_changes(
 {
     let mut next = at;
     let mut last: u64 = 0;
-    let mut n: usize = 0;
-    while n < entries {
+    for n in 0..entries {
         let span = span_at(set, numbers, n);
         next = put_span(last, span, out, next);
         last = span.to;
-        n += 1;
     }
     next
 }

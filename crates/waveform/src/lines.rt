@@ -29,10 +29,7 @@ pub(crate) fn put_time(t: u64, out: &mut [u8], at: usize) -> usize
 fn value_byte(value: bool) -> u8
     ensures { result ≡ cond value 49 48 }
 {
-    if value {
-        return b'1';
-    }
-    b'0'
+    b'0' + value as u8
 }
 
 // The value of the wire of the job at a place.

@@ -9,50 +9,39 @@ ghost use Rattle.waveform.specs.Answers.{waveform_answer, waveform_left};
 
 use crate::dump::put_dump;
 use jobs::most::most_times;
-use jobs::refusal::{Check, Refusal};
+use jobs::refusal::Refusal;
 use jobs::set::JobSet;
-use machine::trace::{MAX_NUMBERS, Traced, trace};
-use texts::written::Written;
+use machine::trace::{MAX_NUMBERS, trace};
+use texts::whole::write_whole;
 
 // Enough for the waveform of every accepted set, by the theorem `waveform_fits`.
 pub const MAX_WAVEFORM: usize = 128 * JobSet::MAX_JOBS;
 
-// Writes the dump of the first entries; its length is what it takes in a buffer of no bytes, so that a short buffer stays as it was.
-fn write_dump(set: JobSet, numbers: &[u64], entries: usize, out: &mut [u8]) -> Written
+// Writes the dump of the first entries.
+#[tactic(auto, using(laws::proofs::Clipped::put_whole))]
+fn write_dump(set: JobSet, numbers: &[u64], entries: usize, out: &mut [u8]) -> Result<u32, Refusal>
     requires { Drawn (jobs_of set) numbers.now entries }
     ensures result_value { let text = dump_of (jobs_of set) (spans_of (jobs_of set) numbers.now entries) in result ≡ answer_to text out.old }
     ensures out_after { let text = dump_of (jobs_of set) (spans_of (jobs_of set) numbers.now entries) in out.new ≡ laws_written text out.old }
 {
-    let length = put_dump(set, numbers, entries, &mut out[..0]);
-    if out.len() < length {
-        return Written::Refused(Refusal::ShortBuffer);
-    }
-    put_dump(set, numbers, entries, out);
-    Written::Bytes(length as u32)
+    write_whole(|out: &mut [u8]| put_dump(set, numbers, entries, out), out)
 }
 
 // The waveform of a set's run with these running times: the refusals of the set first, then 8, then 9.
-pub fn write_waveform(set: JobSet, times: &[u64], out: &mut [u8]) -> Written
+pub fn write_waveform(set: JobSet, times: &[u64], out: &mut [u8]) -> Result<u32, Refusal>
     ensures value { result ≡ waveform_answer (jobs_of set) times.now out.old }
     ensures out_after { out.new ≡ waveform_left (jobs_of set) times.now out.old }
 {
     let mut numbers = [0u64; MAX_NUMBERS];
-    match trace(set, times, &mut numbers) {
-        Traced::Refused(refusal) => Written::Refused(refusal),
-        Traced::Entries { entries, .. } => write_dump(set, &numbers, entries, out),
-    }
+    let traced = trace(set, times, &mut numbers)?;
+    write_dump(set, &numbers, traced.entries, out)
 }
 
 // From the text of a table to the waveform of the run with all most times: the refusals of reading first, then 9.
-pub fn waveform_text(text: &[u8], out: &mut [u8]) -> Written
+pub fn waveform_text(text: &[u8], out: &mut [u8]) -> Result<u32, Refusal>
     ensures { (result ≡ answer_for most_waveform text.now out.old) × (out.new ≡ left_for most_waveform text.now out.old) }
 {
-    let reading = table::reading::read(text);
-    let check = reading.check;
-    if let Check::Refused(refusal) = check {
-        return Written::Refused(refusal);
-    }
-    let set = reading.set;
+    let set = table::reading::read(text)?;
     let most = most_times(set);
     write_waveform(set, &most[..set.count], out)
 }

@@ -15,12 +15,10 @@ pub(crate) fn put_wires(set: JobSet, out: &mut [u8], at: usize) -> usize
 {
     let count = set.count;
     let mut next = at;
-    let mut n: usize = 0;
-    while n < count {
+    for n in 0..count {
         let chain = set.jobs[n].chain;
         let number = set.jobs[n].job;
         next = put_wire(n, chain, number, out, next);
-        n += 1;
     }
     next
 }
@@ -31,10 +29,8 @@ pub(crate) fn put_values(first: usize, count: usize, out: &mut [u8], at: usize) 
     ensures { Put out.old at (lines_text (tabulate 0 count (λ u. value_line (eqb first u) u))) out.new result }
 {
     let mut next = at;
-    let mut n: usize = 0;
-    while n < count {
+    for n in 0..count {
         next = put_value(first == n, n, out, next);
-        n += 1;
     }
     next
 }

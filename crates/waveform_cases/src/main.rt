@@ -14,12 +14,12 @@ use streams::{argument, print};
 
 // The first letter of the name tells what is asked.
 fn print_case<R: Files + Print>(rt: &R, name: &[u8]) -> io::Result<()> {
-    if name.len() == 0 {
+    if name.is_empty() {
         return Ok(());
     }
     print(rt, name)?;
-    print(rt, b":\n")?;
-    if name[0] == b'w' {
+    print!(rt; ":\n")?;
+    if name.starts_with(b"w") {
         print_wave(rt, name)
     } else {
         print_edge(rt, name)

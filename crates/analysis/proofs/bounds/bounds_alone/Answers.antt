@@ -1,21 +1,33 @@
 -- `bounds_alone` answers the bounds of `bounds_of`, algorithm by algorithm. Assumes nothing.
-use Rattle.analysis.proofs.Algorithms.{is_ert, is_cja, is_itr, is_refused, is_unknown}
+use Rattle.analysis.proofs.Algorithms.{is_ert, is_cja, is_unknown, each_alone, itr_each_alone}
+use Rattle.analysis.specs.Answers.{bounds_of}
 use Rattle.completion.specs.Answers.{bounds_alone}
-use Rattle.completion.specs.declared.answer.ItrAlone.{ItrAlone}
+use Rattle.jobs.specs.declared.refusal.Refusal.{Refusal}
+use Rattle.std.specs.Prelude.{Err}
 use mathlib.Core.Path.{sym, ap, ◌∙◌}
 use Rattle.analysis.proofs.bounds.bounds_alone.Goals as goal
 
-pub returns-then-algorithm-eq1 : goal.returns-then-algorithm-eq1
-returns-then-algorithm-eq1 c = c.ert_alone.ensures ∙ ap bounds_alone (is_ert _ _ c.if-algorithm-eq1.true)
+pub returns-in-Ok-Ert : goal.returns-in-Ok-Ert
+returns-in-Ok-Ert c =
+    c.ert_alone.ensures ∙ ap bounds_alone (is_ert c.args.set ∙ ap (bounds_of c.args.set) (rw c.in-Ok-Ert.field-0-is at c.in-Ok-Ert.ensures))
 
-pub returns-then-algorithm-eq2 : goal.returns-then-algorithm-eq2
-returns-then-algorithm-eq2 c = c.cja_alone.ensures ∙ ap bounds_alone (is_cja _ _ c.if-algorithm-eq1.false c.if-algorithm-eq2.true)
+pub returns-in-Ok-Cja : goal.returns-in-Ok-Cja
+returns-in-Ok-Cja c =
+    c.cja_alone.ensures ∙ ap bounds_alone (is_cja c.args.set ∙ ap (bounds_of c.args.set) (rw c.in-Ok-Cja.field-0-is at c.in-Ok-Cja.ensures))
 
-pub returns-then-algorithm-eq3 : goal.returns-then-algorithm-eq3
-returns-then-algorithm-eq3 c = ap (λ (a : ItrAlone). record { check = a.check; bounds = a.bounds }) c.itr_alone-answer.ensures ∙ ap bounds_alone (is_itr _ _ c.if-algorithm-eq1.false c.if-algorithm-eq2.false c.if-algorithm-eq3.true)
+pub returns-in-Ok : goal.returns-in-Ok
+returns-in-Ok c =
+    let e = rw c.in-Ok-Itr.field-0-is at c.in-Ok-Itr.ensures in
+    ap each_alone (sym c.in-Ok.is ∙ c.itr_alone.ensures) ∙ itr_each_alone c.args.set ∙ ap (λ n. bounds_alone (bounds_of c.args.set n)) e
 
-pub returns-in-Refused : goal.returns-in-Refused
-returns-in-Refused c = c.refused_alone.ensures ∙ ap bounds_alone (is_refused _ _ _ (sym c.check.ensures ∙ c.in-Refused.is))
+pub returns-in-Err-itr_alone : goal.returns-in-Err-itr_alone
+returns-in-Err-itr_alone c =
+    let e = rw c.in-Ok-Itr.field-0-is at c.in-Ok-Itr.ensures in
+    ap each_alone (sym c.in-Err-itr_alone.is ∙ c.itr_alone.ensures) ∙ itr_each_alone c.args.set ∙ ap (λ n. bounds_alone (bounds_of c.args.set n)) e
 
-pub returns : goal.returns
-returns c = c.refused_alone-2.ensures ∙ ap bounds_alone (is_unknown _ _ (sym c.check.ensures ∙ c.in_default.is) c.if-algorithm-eq1.false c.if-algorithm-eq2.false c.if-algorithm-eq3.false)
+pub returns-in-Ok-check : goal.returns-in-Ok-check
+returns-in-Ok-check c =
+    rw (is_unknown c.args.set _ c.in-Err.ensures.1, sym c.check.ensures, c.in-Ok-check.is) (ap (λ (refusal : Refusal). Err refusal) c.in-Err.ensures.0)
+
+pub returns-in-Err-check : goal.returns-in-Err-check
+returns-in-Err-check c = rw (is_unknown c.args.set _ c.in-Err.ensures.1, sym c.check.ensures, c.in-Err-check.is)

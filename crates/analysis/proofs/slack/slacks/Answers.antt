@@ -1,28 +1,20 @@
 -- `slacks` answers `slacks_of`. Assumes nothing.
 use Rattle.analysis.specs.Answers.{slacks_of}
-use Rattle.completion.proofs.Passing.{itr_parts, itr_passed}
-use Rattle.jobs.specs.Checks.{check_of}
-use Rattle.jobs.specs.Jobs.{jobs_of}
-use Rattle.jobs.specs.declared.refusal.Check.TheVariants.{Passed}
-use lib.IntN.{ℤ}
-use mathlib.Core.List.{List}
-use mathlib.Core.Path.{◌≡◌, sym, ap, ◌∙◌}
-use Rattle.analysis.proofs.slack.slacks.Goals.{In_default}
+use Rattle.completion.proofs.Passing.{itr_answered, itr_refused}
+use Rattle.completion.specs.declared.answer.ItrAlone.{ItrAlone}
+use borrow.Author.Rules.{rules}
+use mathlib.Core.Path.{sym, ap, ◌∙◌}
 use Rattle.analysis.proofs.slack.slacks.Goals as goal
 
--- the set is accepted
-accepts : (c : In_default) → check_of (jobs_of c.args.set) ≡ Passed
-accepts c = sym (itr_parts _ _ c.itr_alone-answer.ensures).0 ∙ c.in_default.is
-
-pub returns-in-Refused : goal.returns-in-Refused
+pub returns-in_err-answer : goal.returns-in_err-answer
 unfolding slacks_of
-returns-in-Refused c = rw (sym (itr_parts _ _ c.itr_alone-answer.ensures).0 ∙ c.in-Refused.is)
+returns-in_err-answer c = rw (itr_refused c.args.set _ (sym c.in_err-answer.was ∙ c.itr_alone.ensures)) (search rules)
 
 pub slacks_by-requires : goal.slacks_by-requires
 slacks_by-requires c =
-    let set = accepts c.before in
-    record { set_value = set; bounds_value = itr_passed _ _ c.itr_alone-answer.ensures set }
+    let accepted = itr_answered c.args.set _ (sym c.in_ok-answer.was ∙ c.itr_alone.ensures) in
+    record { set_value = accepted.0; bounds_value = ap (λ (a : ItrAlone). a.bounds) accepted.1 }
 
 pub returns : goal.returns
 unfolding slacks_of
-returns c = rw (accepts c.before.before) (ap (λ (each : List ℤ). record { check = Passed; slacks = each }) c.slacks_by.ensures)
+returns c = rw ((itr_answered c.args.set _ (sym c.in_ok-answer.was ∙ c.itr_alone.ensures)).0, c.slacks_by.ensures)

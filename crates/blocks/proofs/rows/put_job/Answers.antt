@@ -1,4 +1,4 @@
--- `put_job` leaves as much of a job's rows as fits. The loop's invariant: those of the first n chains stand; what falls is how many are to come.
+-- `put_job` leaves as much of a job's rows as fits. The loop's invariant: those of the first n chains stand.
 -- Assumes nothing.
 use Rattle.blocks.proofs.RowTexts.{job-made}
 use Rattle.blocks.specs.Texts.{max_blocks_text}

@@ -1,4 +1,4 @@
--- `put_job` leaves as much of a job's rows as fits. The loop's invariant: those of the first n chains stand; what falls is how many are to come.
+-- `put_job` leaves as much of a job's rows as fits. The loop's invariant: those of the first n chains stand.
 -- Assumes nothing.
 use Prim.Native.Nat.{◌-◌}
 use Rattle.blocks.proofs.RowTexts.{chain_text}
@@ -10,6 +10,3 @@ use Rattle.blocks.proofs.rows.put_job.Given as goal
 abbrev pub invariant-loop-n : goal.invariant-loop-n
 invariant-loop-n l =
     PiecesPut (λ k. lines_text (job_rows k l.job l.delay)) (chain_text l.job l.delay) l.chains l.initial.out l.at l.out l.next l.n
-
-abbrev pub decreases-loop-n : goal.decreases-loop-n
-decreases-loop-n l = l.chains - l.n

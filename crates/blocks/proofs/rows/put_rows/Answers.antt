@@ -1,4 +1,4 @@
--- `put_rows` leaves as much of all rows as fits. The loop's invariant: those of the first n jobs stand; what falls is how many are to come. Assumes nothing.
+-- `put_rows` leaves as much of all rows as fits. The loop's invariant: those of the first n jobs stand. Assumes nothing.
 use Prim.Native.Nat.{ℕ, ◌≤◌, ◌<◌}
 use Rattle.blocks.proofs.RowTexts.{rows_made}
 use Rattle.blocks.specs.Texts.{max_blocks_text}

@@ -1,4 +1,4 @@
--- `put_rows` leaves as much of all rows as fits. The loop's invariant: those of the first n jobs stand; what falls is how many are to come. Assumes nothing.
+-- `put_rows` leaves as much of all rows as fits. The loop's invariant: those of the first n jobs stand. Assumes nothing.
 use Prim.Native.Nat.{◌-◌}
 use Rattle.blocks.specs.Texts.{job_rows, blocks_rows}
 use Rattle.completion.specs.Delays.{no_delay}
@@ -12,6 +12,3 @@ abbrev pub invariant-loop-n : goal.invariant-loop-n
 invariant-loop-n l =
     let js = jobs_of l.set in
     PiecesPut (λ k. lines_text (blocks_rows js l.delays k)) (λ k. lines_text (job_rows (chains_of js) (job_at js k) (get_or l.delays k no_delay))) l.count l.initial.out l.at l.out l.next l.n
-
-abbrev pub decreases-loop-n : goal.decreases-loop-n
-decreases-loop-n l = l.count - l.n

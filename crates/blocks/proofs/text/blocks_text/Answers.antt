@@ -1,29 +1,36 @@
 -- `blocks_text` answers `answer_for blocks_text`, and leaves `left_for blocks_text`. Assumes nothing.
+use Rattle.std.proofs.lemmas.Result.{err_from_is_err_and}
 use Rattle.blocks.proofs.Fits.{blocks_fit}
-use Rattle.blocks.proofs.NamedTexts.{named_text}
+use Rattle.blocks.proofs.NamedTexts.{itr_some, named_text}
 use Rattle.blocks.specs.Texts.{delays_text, blocks_text}
 use Rattle.jobs.proofs.Accepted.{accepted}
 use Rattle.jobs.proofs.Chains.{chains-within}
 use Rattle.jobs.proofs.Sets.{length_jobs}
 use Rattle.jobs.specs.Checks.{check_of}
 use Rattle.jobs.specs.Jobs.{jobs_of}
-use Rattle.jobs.specs.declared.refusal.Check.TheVariants.{Passed}
-use Rattle.table.proofs.Accepting.{read_check, read_jobs, read_passed}
+use Rattle.std.specs.Prelude.{Ok}
+use Rattle.table.proofs.Accepting.{read_passed}
 use Rattle.texts.specs.Answers.{answer_for, left_for}
 use lib.ListN.{length}
-use mathlib.Core.Path.{◌≡◌, ap}
+use mathlib.Core.Path.{◌≡◌, sym, ap, ◌∙◌}
 use native.Mathlib.Omega.{arith}
 use Rattle.blocks.proofs.text.blocks_text.Goals as goal
 
-pub returns-in-Refused : goal.returns-in-Refused
+pub returns-in_err-set : goal.returns-in_err-set
 unfolding answer_for left_for
-returns-in-Refused c = let e = read_check c.read-reading.ensures c.in-Refused.is in record { value = rw e; out_after = rw e }
+returns-in_err-set c =
+    let p = err_from_is_err_and c.from_residual.result c.from_residual.ensures.1 in
+    let e = sym c.read.ensures ∙ c.in_err-set.was in
+    record { value = rw (p.1, p.2, e); out_after = rw e }
+
+pub returns-in_err-named : goal.returns-in_err-named
+returns-in_err-named c = absurd (itr_some _ _ (sym c.in_err-named.was ∙ c.itr.ensures) (read_passed _ _ c.read.ensures c.in_ok-set.was))
 
 pub write_blocks-requires : goal.write_blocks-requires
 write_blocks-requires c =
-    let set = c.read-reading.result.set in
-    let passed : check_of (jobs_of set) ≡ Passed = read_passed _ c.read-reading.ensures c.in_default.is in
-    let text_is = named_text set c.itr-named.result c.itr-named.ensures passed in
+    let set = c.in_ok-set.set in
+    let passed : check_of (jobs_of set) ≡ Ok tt = read_passed _ _ c.read.ensures c.in_ok-set.was in
+    let text_is = named_text set c.in_ok-named.named (sym c.in_ok-named.was ∙ c.itr.ensures) passed in
     let ok = accepted (jobs_of set) passed in
     record {
       count_le_max_jobs = (omega (arith, length_jobs set, ok.few), chains-within (jobs_of set) ok);
@@ -33,11 +40,11 @@ write_blocks-requires c =
 pub returns : goal.returns
 unfolding answer_for left_for
 returns c =
-    let set = c.read-reading.result.set in
-    let is = c.read-reading.ensures in
-    let passed : check_of (jobs_of set) ≡ Passed = read_passed _ is c.in_default.is in
-    let text_is : delays_text (jobs_of set) c.itr-named.result.delays ≡ blocks_text (jobs_of set) = named_text set c.itr-named.result c.itr-named.ensures passed in
+    let set = c.in_ok-set.set in
+    let told = sym c.read.ensures ∙ c.in_ok-set.was in
+    let passed : check_of (jobs_of set) ≡ Ok tt = read_passed _ _ c.read.ensures c.in_ok-set.was in
+    let text_is : delays_text (jobs_of set) c.in_ok-named.named.delays ≡ blocks_text (jobs_of set) = named_text set c.in_ok-named.named (sym c.in_ok-named.was ∙ c.itr.ensures) passed in
     record {
-      value = rw (read_check is c.in_default.is) (rw (read_jobs is) at (rw text_is at c.write_blocks.ensures.value));
-      out_after = rw (read_check is c.in_default.is) (rw (read_jobs is) at (rw text_is at c.write_blocks.ensures.out_after));
+      value = rw told (rw text_is at c.write_blocks.ensures.value);
+      out_after = rw told (rw text_is at c.write_blocks.ensures.out_after);
     }

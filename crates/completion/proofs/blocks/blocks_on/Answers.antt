@@ -20,7 +20,7 @@ use Rattle.completion.proofs.blocks.blocks_on.Goals as goal
 abbrev block : Start → ℕ → Block
 block s c =
     block_named (number_at s.args.numbers.now)
-    (blocks_on (lent s.args.count s.args.columns.now) s.args.own s.args.target (spanned s.args.columns.now s.args.bound.now s.args.from s.args.to) c)
+    (blocks_on (lent s.args.table.now.count s.args.table.now.columns) s.args.target.chain s.args.target.urgency (spanned s.args.table.now.columns s.args.bound.now s.args.target.from s.args.target.to) c)
 
 abbrev next : Start → ℕ → Block
 next s c = block s (suc c)
@@ -32,7 +32,7 @@ pub loop-n-preserved : goal.loop-n-preserved
 loop-n-preserved c =
     let s = c.before.before.before.before in
     let l = c.loop-n in
-    (omega arith, filled_next max_chains no_block (next s) l.n l.blocks _ (omega arith) l.invariant.1 (c.chain_block.ensures ∙ rw add-one))
+    (omega arith, filled_next max_chains no_block (next s) l.n l.each _ (omega arith) l.invariant.1 (c.chain_block.ensures ∙ rw add-one))
 
 pub returns : goal.returns
 returns c =

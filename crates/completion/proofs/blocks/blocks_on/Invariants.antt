@@ -1,9 +1,9 @@
 -- `blocks_on` answers `blocks_on` for each chain. The loop's invariant: the blocks of the first n chains stand in the array. Assumes nothing.
-use Prim.Native.Nat.{suc, ◌-◌, ◌≤◌}
+use Prim.Native.Nat.{suc, ◌≤◌}
 use Rattle.completion.specs.Delays.{no_block, block_named}
 use Rattle.jobs.specs.Limits.{max_chains}
 use Rattle.laws.specs.Words.{number_at, tabulate, padded}
-use Rattle.theory.proofs.Columns.{lent}
+use Rattle.completion.proofs.Counting.{lent_by}
 use Rattle.theory.proofs.Weights.{spanned}
 use Rattle.theory.specs.Delays.{blocks_on}
 use mathlib.Core.Path.{◌≡◌}
@@ -11,7 +11,4 @@ use Rattle.completion.proofs.blocks.blocks_on.Given as goal
 
 abbrev pub invariant-loop-n : goal.invariant-loop-n
 invariant-loop-n l =
-    (l.n ≤ max_chains) × (l.blocks ≡ padded max_chains no_block (tabulate 0 l.n (λ c. block_named (number_at l.numbers) (blocks_on (lent l.count l.columns) l.own l.target (spanned l.columns l.bound l.from l.to) (suc c)))))
-
-abbrev pub decreases-loop-n : goal.decreases-loop-n
-decreases-loop-n l = max_chains - l.n
+    (l.n ≤ max_chains) × (l.each ≡ padded max_chains no_block (tabulate 0 l.n (λ c. block_named (number_at l.numbers) (blocks_on (lent_by l.table) l.target.chain l.target.urgency (spanned l.table.columns l.bound l.target.from l.target.to) (suc c)))))

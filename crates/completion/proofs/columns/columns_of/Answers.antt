@@ -18,9 +18,6 @@ loop-i-init c =
     let s = c.args.set in
     (omega (arith, length_jobs s, (accepted (jobs_of s) c.requires).few), gathered_none (jobs_of s))
 
-pub first_of-first-requires : goal.first_of-first-requires
-first_of-first-requires c = c.loop-i.invariant.1.heads.within
-
 pub overflow_add-ready : goal.overflow_add-ready
 overflow_add-ready c =
     let s = c.args.set in
@@ -39,7 +36,7 @@ loop-i-preserved c =
     let l = c.loop-i in
     let taken = c.loop-i-test.true in
     let h : l.i < length (jobs_of s) = omega (arith, length_jobs s, taken) in
-    (l.invariant.0, gathered_next (jobs_of s) ok.few l.i h _ (sym (job_at_lem s l.i taken)) l.invariant.1 c.not_before-earliest.result c.not_before-earliest.ensures (accepted_ordered (jobs_of s) ok) c.urgency.result c.urgency.ensures c.larger.result c.larger.ensures c.first_of-first.result c.first_of-first.ensures.0)
+    (l.invariant.0, gathered_next (jobs_of s) ok.few l.i h _ (sym (job_at_lem s l.i taken)) l.invariant.1 c.not_before-earliest.result c.not_before-earliest.ensures (accepted_ordered (jobs_of s) ok) c.urgency.result c.urgency.ensures c.max.result c.max.ensures c.first_of-first.result c.first_of-first.ensures.0)
 
 pub returns : goal.returns
 returns c =

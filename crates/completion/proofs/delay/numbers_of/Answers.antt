@@ -7,10 +7,9 @@ use Rattle.jobs.specs.Jobs.{no_job, jobs_of}
 use Rattle.jobs.specs.Limits.{max_jobs}
 use Rattle.jobs.specs.declared.job.Job.{Job}
 use Rattle.laws.proofs.Filling.{filled_none, filled_next}
-use Rattle.theory.proofs.Columns.{column}
 use borrow.Author.Rules.{rules}
 use lib.ListN.{get_or}
-use mathlib.Core.Path.{◌≡◌, sym, ap, ◌∙◌}
+use mathlib.Core.Path.{sym, ap}
 use native.Mathlib.Omega.{arith}
 use Rattle.completion.proofs.delay.numbers_of.Goals.{Start}
 use Rattle.completion.proofs.delay.numbers_of.Goals as goal
@@ -50,10 +49,3 @@ loop-i-preserved c =
     let l = c.loop-i in
     let h = c.loop-i-test.true in
     (omega arith, filled_next max_jobs 0 (number_in (jobs_of s.args.set)) l.i l.numbers _ (omega (arith, few s)) l.invariant.1 (ap (λ (j : Job). j.job) (sym (job_at_lem s.args.set l.i h))))
-
-pub returns : goal.returns
-returns c =
-    let s = c.before.before in
-    let l = c.loop-i in
-    let e : l.i ≡ s.args.set.count = omega arith in
-    l.invariant.1 ∙ ap (λ (n : ℕ). column n (number_in (jobs_of s.args.set))) e

@@ -1,29 +1,24 @@
 -- `lowest_from` answers `lowest`. The loop's invariant: it is the lowest so far. Assumes nothing.
-use Rattle.theory.proofs.Columns.{lent}
+use Prim.Native.Nat.{ℕ, suc, ◌+◌, ◌-◌, min}
+use Rattle.completion.proofs.Counting.{lent_by}
 use Rattle.theory.proofs.Rules.{lowest_one, lowest_more}
 use Rattle.theory.specs.Bounds.{lowest}
-use Rattle.theory.specs.Table.{Table}
-use mathlib.Core.Path.{sym, ap, ◌∙◌}
-use native.Mathlib.Numerals.{add-one}
+use mathlib.Core.Path.{◌≡◌, sym, ap, ap₂, ◌∙◌}
 use native.Mathlib.Omega.{arith}
-use Rattle.completion.proofs.first.lowest_from.Goals.{Start}
 use Rattle.completion.proofs.first.lowest_from.Goals as goal
 
--- the table of the lent columns
-abbrev table : Start → Table
-table s = lent s.args.count s.args.columns.now
-
 pub loop-i-init : goal.loop-i-init
-loop-i-init c = let s = c.before in (omega arith, s.requires.0, c.figure-low.ensures ∙ sym (lowest_one (table s) s.args.k))
+loop-i-init c =
+    let t = lent_by c.args.table.now in
+    let here : c.args.k ≡ c.args.k + 1 - 1 = omega arith in
+    c.urgency-low.ensures ∙ sym (lowest_one t c.args.k) ∙ ap (lowest t c.args.k) here
 
 pub loop-i-preserved : goal.loop-i-preserved
 loop-i-preserved c =
-    let s = c.before.before.before.before.before in
+    let a = c.args in
     let l = c.loop-i in
-    (omega arith, omega arith, c.lower-low.ensures ∙ rw (l.invariant.2, c.figure.ensures, add-one) (sym (lowest_more (table s) s.args.k l.i l.invariant.0)))
-
-pub returns : goal.returns
-returns c =
-    let s = c.before.before.before in
-    let l = c.loop-i in
-    l.invariant.2 ∙ ap (lowest (table s) s.args.k) (omega arith)
+    let t = lent_by a.table.now in
+    let last : ℕ = l.i - 1 in
+    let here : l.i ≡ suc last = omega (arith, l.auto.i) in
+    let next : l.i + 1 - 1 ≡ suc last = omega (arith, l.auto.i) in
+    c.min-low.ensures ∙ ap₂ min l.invariant (c.urgency.ensures ∙ ap t.urgency here) ∙ sym (lowest_more t a.k last (omega (arith, l.auto.i))) ∙ ap (lowest t a.k) (sym next)

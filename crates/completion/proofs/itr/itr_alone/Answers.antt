@@ -1,31 +1,20 @@
 -- `itr_alone` answers bounds and rounds of `itr_of`: the set's refusal, or both. Assumes nothing.
+use Rattle.std.specs.Prelude.{Ok}
+use Rattle.completion.proofs.Counting.{lent_by}
 use Rattle.completion.proofs.Lent.{Lends, lends}
+use Rattle.completion.proofs.Passing.{itr_alone_is}
 use Rattle.completion.proofs.Rounding.{itr_passed}
-use Rattle.completion.specs.Answers.{itr_of}
-use Rattle.jobs.specs.Checks.{check_of}
-use Rattle.jobs.specs.Jobs.{jobs_of}
-use Rattle.jobs.specs.declared.refusal.Check.TheVariants.{Passed}
-use mathlib.Core.Path.{◌≡◌, sym, ap, ◌∙◌}
-use Rattle.completion.proofs.itr.itr_alone.Goals.{After-columns_of-columns, In_default}
+use borrow.Author.Rules.{rules}
+use mathlib.Core.Path.{sym, ap, ◌∙◌}
+use Rattle.completion.proofs.itr.itr_alone.Goals.{After-of-table}
 use Rattle.completion.proofs.itr.itr_alone.Goals as goal
 
--- the set is accepted, and what its columns hold
-accepts : (c : In_default) → check_of (jobs_of c.args.set) ≡ Passed
-accepts c = sym c.check.ensures ∙ c.in_default.is
+-- what the table of the accepted set holds
+held : (c : After-of-table) → Lends c.args.set (lent_by c.of-table.result)
+held c = lends c.args.set (sym c.check.ensures ∙ c.in_ok-check.was) (lent_by c.of-table.result) c.of-table.ensures
 
-held : (c : After-columns_of-columns) → Lends c.args.set c.columns_of-columns.result
-held c = lends c.args.set (accepts c.before) c.columns_of-columns.result c.columns_of-columns.ensures.0
-
-pub returns-in-Refused : goal.returns-in-Refused
-unfolding itr_of
-returns-in-Refused c = rw (sym c.check.ensures ∙ c.in-Refused.is)
-
-pub columns_of-columns-requires : goal.columns_of-columns-requires
-columns_of-columns-requires c = accepts c
-
-pub settle-requires : goal.settle-requires
-settle-requires c = ((held c.before).fit, c.columns_of-columns.ensures.1)
+pub returns-in_err-check : goal.returns-in_err-check
+returns-in_err-check c = rw (itr_alone_is c.args.set, sym c.check.ensures, c.in_err-check.was) (search rules)
 
 pub returns : goal.returns
-unfolding itr_of
-returns c = rw (accepts c.before.before.before) (c.settle.ensures ∙ ap itr_passed (held c.before.before).by_itr)
+returns c = rw (itr_alone_is c.args.set, sym c.check.ensures, c.in_ok-check.was, c.settle.ensures) (ap (λ answer. Ok (itr_passed answer)) (held c.before.before).by_itr)

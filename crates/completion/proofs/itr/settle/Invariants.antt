@@ -3,15 +3,15 @@
 -- end. Assumes nothing.
 use Prim.Native.Nat.{◌-◌}
 use Rattle.completion.proofs.Rounding.{Rounding}
-use Rattle.theory.proofs.Columns.{lent}
+use Rattle.completion.proofs.Counting.{lent_by}
 use Rattle.theory.proofs.Refilling.{Spare}
 use Rattle.theory.proofs.SweptPairs.{Ready}
 use Rattle.theory.specs.Bounds.{itr}
 use Rattle.completion.proofs.itr.settle.Given as goal
 
-abbrev pub invariant-loop-released : goal.invariant-loop-released
-invariant-loop-released l =
-    Rounding (lent l.count l.columns) l.bounds l.rounds × Ready l.count l.columns l.released l.delay × Spare l.count l.next
+abbrev pub invariant-loop-carried : goal.invariant-loop-carried
+invariant-loop-carried l =
+    Rounding (lent_by l.table) l.bounds l.rounds × Ready l.table.count l.table.columns l.carried.released l.carried.delay × Spare l.table.count l.next
 
-abbrev pub decreases-loop-released : goal.decreases-loop-released
-decreases-loop-released l = (itr (lent l.count l.columns)).rounds - l.rounds
+abbrev pub decreases-loop-carried : goal.decreases-loop-carried
+decreases-loop-carried l = (itr (lent_by l.table)).rounds - l.rounds

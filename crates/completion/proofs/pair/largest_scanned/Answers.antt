@@ -1,81 +1,59 @@
 -- `largest_scanned` answers `largest_pair`. The loop's invariant: the pairs from k on are behind it. Assumes nothing.
 use Prim.Native.Nat.{ℕ, suc, ◌*◌, ◌-◌, ◌≤◌, ◌<◌, min}
+use Rattle.completion.proofs.Counting.{lent_by, delay_small}
 use Rattle.jobs.specs.Limits.{max_time}
 use Rattle.laws.specs.Words.{number_at}
-use Rattle.theory.proofs.Columns.{lent}
-use Rattle.theory.proofs.Pairs.{walked_none, walked_sum, walked_low, walked_next, walked_stop, walked_all, pair_is, delay_limit}
+use Rattle.theory.proofs.Pairs.{walked_none, walked_sum, walked_low, walked_next, walked_stop, walked_all, pair_is}
 use Rattle.theory.proofs.Weights.{spanned}
 use Rattle.theory.specs.Bounds.{interference, overlap}
-use Rattle.theory.specs.Table.{Table}
 use borrow.Author.Rules.{rules}
-use mathlib.Core.Bool.{Bool}
 use mathlib.Core.Path.{◌≡◌, ◌∙◌}
 use native.Mathlib.Numerals.{add-one}
 use native.Mathlib.Omega.{arith}
-use Rattle.completion.proofs.pair.largest_scanned.Goals.{Start}
 use Rattle.completion.proofs.pair.largest_scanned.Goals as goal
 
--- the table of the lent columns
-abbrev table : Start → Table
-table s = lent s.args.count s.args.columns.now
-
-abbrev keep : Start → ℕ → ℕ → ℕ → Bool
-keep s = overlap (table s) s.args.bound.now
-
-abbrev delay_small : (s : Start) (low from to delay : ℕ) → delay ≡ interference (table s) ((table s).chain s.args.j) low (spanned s.args.columns.now s.args.bound.now from to) → delay ≤ s.args.count * max_time
-delay_small s low from to delay e = delay_limit s.args.count s.args.columns.now s.args.bound.now s.requires.0.mosts _ low from to delay e
-
 pub loop-k-init : goal.loop-k-init
-loop-k-init c = let s = c.before.before.before.before.before in rw (add-one, c.figure-low.ensures) (walked_none (table s) s.args.j (keep s) max_time)
+loop-k-init c =
+    let a = c.args in
+    let t = lent_by a.table.now in
+    rw (add-one, c.urgency-low.ensures) (walked_none t a.j (overlap t a.bound.now) max_time)
 
-pub returns-then-figure-own : goal.returns-then-figure-own
-returns-then-figure-own c =
-    let s = c.before.before.before.before.before.before.before.before.before in
-    let l = c.loop-k in
-    let e : l.k ≡ suc (l.k - 1) = omega (arith, c.loop-k-test.true) in
-    walked_stop (table s) s.args.j (keep s) max_time l.invariant e s.requires.0.ordered s.requires.2 (rw (c.figure.ensures, c.figure-own.ensures) at c.if-figure-own.true)
+pub returns-then-chain-own : goal.returns-then-chain-own
+returns-then-chain-own c =
+    let a = c.args in
+    let t = lent_by a.table.now in
+    walked_stop t a.j (overlap t a.bound.now) max_time c.loop-k.invariant (omega arith) a.table.now.fit.ordered c.requires (rw (c.chain.ensures, c.chain-own.ensures) at c.if-chain-own.true)
 
-pub overflow_add-sum : goal.overflow_add-sum
-overflow_add-sum c =
-    let s = c.before.before.before.before.before.before.before.before.before.before in
-    let l = c.loop-k in
-    search (rules, s.requires.0.mosts (l.k - 1) (omega (arith, l.invariant.inside, s.requires.2, c.loop-k-test.true)), l.invariant.small, s.requires.0.few)
-
-pub overflow_add-figure : goal.overflow_add-figure
-overflow_add-figure c =
-    let s = c.before.before.before.before.before.before.before.before.before.before.before.before.before.before.before in
-    let l = c.loop-k in
-    let i : l.k - 1 < s.args.count = omega (arith, l.invariant.inside, s.requires.2, c.loop-k-test.true) in
-    search (rules, s.requires.0.mosts (l.k - 1) i, s.requires.0.late (l.k - 1) i, l.invariant.small, s.requires.0.few)
-
-pub overflow_add-figure-in-loop-k : goal.overflow_add-figure-in-loop-k
-overflow_add-figure-in-loop-k c =
-    let s = c.before.before.before.before.before.before.before.before.before.before.before.before.before.before.before in
-    let l = c.loop-k in
-    let i : l.k - 1 < s.args.count = omega (arith, l.invariant.inside, s.requires.2, c.loop-k-test.true) in
-    let delayed : c.interference-delay.result ≡ interference (table s) ((table s).chain s.args.j) c.lower-low.result (spanned s.args.columns.now s.args.bound.now ((table s).earliest (l.k - 1)) (number_at s.args.bound.now s.args.j))
-    = c.interference-delay.ensures ∙ rw (c.figure-in-loop-k-2.ensures, c.figure-own.ensures) in
-    let d = delay_small s _ _ _ c.interference-delay.result delayed in
-    search (rules, s.requires.0.mosts (l.k - 1) i, s.requires.0.late (l.k - 1) i, l.invariant.small, s.requires.0.few, d)
+pub overflow_add-latest-in-loop-k : goal.overflow_add-latest-in-loop-k
+overflow_add-latest-in-loop-k c =
+    let a = c.args in
+    let fit = a.table.now.fit in
+    let p : ℕ = c.loop-k.k - 1 in
+    let inside : p < a.table.now.count = omega arith in
+    let small : c.interference-delay.result ≤ a.table.now.count * max_time = delay_small a.table.now a.bound.now _ _ _ _ c.interference-delay.result c.interference-delay.ensures in
+    search (rules, fit.mosts p inside, fit.late p inside, c.loop-k.invariant.small, fit.few, small)
 
 pub loop-k-preserved : goal.loop-k-preserved
 loop-k-preserved c =
-    let s = c.before.before.before.before.before.before.before.before.before.before.before.before.before.before.before.before in
-    let l = c.loop-k in
-    let taken = c.loop-k-test.true in
-    let e : l.k ≡ suc (l.k - 1) = omega (arith, taken) in
-    let i : l.k - 1 < s.args.count = omega (arith, l.invariant.inside, s.requires.2, taken) in
-    let lower = c.lower-low.result in
-    let lowered : lower ≡ min l.low ((table s).urgency (l.k - 1)) = c.lower-low.ensures ∙ rw c.figure-in-loop-k.ensures in
-    let delayed : c.interference-delay.result ≡ interference (table s) ((table s).chain s.args.j) c.lower-low.result (spanned s.args.columns.now s.args.bound.now ((table s).earliest (l.k - 1)) (number_at s.args.bound.now s.args.j))
-    = c.interference-delay.ensures ∙ rw (c.figure-in-loop-k-2.ensures, c.figure-own.ensures) in
-    let same_chain = rw (c.figure.ensures, c.figure-own.ensures) at c.if-figure-own.false in
-    let low = walked_low (table s) s.args.j (keep s) max_time l.invariant e lower lowered in
-    let sum = walked_sum (table s) s.args.j (keep s) max_time l.invariant e in
-    rw c.figure-sum.ensures
-    (walked_next (table s) s.args.j (keep s) max_time l.invariant e lower _ c.larger-best.result same_chain (s.requires.0.mosts (l.k - 1) i) lowered
-    (pair_is s.args.count s.args.columns.now s.args.bound.now (l.k - 1) s.args.j _ _ _ (omega (arith, l.invariant.inside)) sum low delayed)
-    (c.larger-best.ensures ∙ rw (c.figure-in-loop-k-3.ensures, c.figure-sum.ensures)))
+    let a = c.args in
+    let t = lent_by a.table.now in
+    let keep = overlap t a.bound.now in
+    let inv = c.loop-k.invariant in
+    let p : ℕ = c.loop-k.k - 1 in
+    let e : c.loop-k.k ≡ suc p = omega arith in
+    let lowered : c.min-low.result ≡ min c.loop-k.low (t.urgency p) = c.min-low.ensures ∙ rw c.urgency.ensures in
+    let delayed : c.interference-delay.result ≡ interference t (t.chain a.j) c.min-low.result (spanned a.table.now.columns a.bound.now (t.earliest p) (number_at a.bound.now a.j))
+    = c.interference-delay.ensures ∙ rw (c.earliest.ensures, c.chain-own.ensures) in
+    let same_chain = rw (c.chain.ensures, c.chain-own.ensures) at c.if-chain-own.false in
+    let low = walked_low t a.j keep max_time inv e c.min-low.result lowered in
+    let sum = walked_sum t a.j keep max_time inv e in
+    let value = pair_is a.table.now.count a.table.now.columns a.bound.now p a.j _ _ _ (omega (arith, inv.inside)) sum low delayed in
+    rw c.most-sum.ensures
+    (walked_next t a.j keep max_time inv e c.min-low.result _ c.max-best.result same_chain (a.table.now.fit.mosts p (omega (arith, inv.inside))) lowered value
+    (c.max-best.ensures ∙ rw (c.latest.ensures, c.most-sum.ensures)))
 
 pub returns : goal.returns
-returns c = let s = c.before.before.before.before.before.before.before in walked_all (table s) s.args.j (keep s) max_time c.loop-k.k (omega (arith, c.loop-k-test.false)) c.loop-k.invariant
+returns c =
+    let a = c.args in
+    let t = lent_by a.table.now in
+    walked_all t a.j (overlap t a.bound.now) max_time c.loop-k.k (omega (arith, c.loop-k-test.false)) c.loop-k.invariant

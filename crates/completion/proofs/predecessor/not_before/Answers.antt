@@ -5,7 +5,7 @@ use Rattle.completion.proofs.predecessor.not_before.Goals as goal
 
 pub returns-then-last-chain : goal.returns-then-last-chain
 unfolding not_before
-returns-then-last-chain c = simp (eq-eqb _ _ c.if-last-chain.true) c.larger.ensures
+returns-then-last-chain c = simp (eq-eqb _ _ c.if-last-chain.true) c.max.ensures
 
 pub returns : goal.returns
 unfolding not_before

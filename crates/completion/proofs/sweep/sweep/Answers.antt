@@ -1,5 +1,5 @@
 -- `sweep` raises the figure of each pair by the share of the jobs before hi. The loop's invariant: the pairs from k on are behind it, and the window ends
--- at hi. The measure is k. Assumes nothing.
+-- at hi. Assumes nothing.
 use Prim.Native.Nat.{suc, ◌-◌, ◌<◌, min}
 use Rattle.theory.proofs.ChainWindow.{WholeIn, releases_in}
 use Rattle.theory.proofs.Columns.{figure}
@@ -8,7 +8,7 @@ use borrow.Author.Rules.{rules}
 use mathlib.Core.Path.{◌≡◌, refl, ◌∙◌}
 use native.Mathlib.Numerals.{add-one}
 use native.Mathlib.Omega.{arith}
-use Rattle.completion.proofs.sweep.sweep.Goals.{After-lower-low, After-met-window, At-loop-k, Start}
+use Rattle.completion.proofs.sweep.sweep.Goals.{After-min-low, After-met-window, At-loop-k, Start}
 use Rattle.completion.proofs.sweep.sweep.Goals as goal
 
 -- the loop's head, from which the sweep goes on with the pair that begins a place before
@@ -20,11 +20,11 @@ previous l h = omega arith
 
 -- the window with the pair at hand has all jobs that overlap, and still ends at hi
 whole : (c : After-met-window) → let l = c.before.before in let a = (start l).args in let r = c.met-window.result in
-    WholeIn a.columns.now a.bound.now (min l.loop-k.low (figure a.columns.now 1 (l.loop-k.k - 1))) (releases_in a.columns.now (l.loop-k.k - 1)) a.first r.lo a.hi r.edge r.largest
+    WholeIn a.table.now.columns a.bound.now (min l.loop-k.low (figure a.table.now.columns 1 (l.loop-k.k - 1))) (releases_in a.table.now.columns (l.loop-k.k - 1)) a.first r.lo a.hi r.edge r.largest
 whole c = rw c.loop-k.invariant.0 at c.met-window.ensures.0
 
 -- the share in the pair at hand
-share : (c : After-met-window) → let l = c.before.before in let a = (start l).args in c.met-window.result.largest ≡ share_in a.columns.now a.bound.now a.j a.first a.hi (l.loop-k.k - 1)
+share : (c : After-met-window) → let l = c.before.before in let a = (start l).args in c.met-window.result.largest ≡ share_in a.table.now.columns a.bound.now a.j a.first a.hi (l.loop-k.k - 1)
 share c =
     let l = c.before.before in
     let s = start l in
@@ -32,13 +32,13 @@ share c =
     sweeping_share s.requires.0 l.loop-k.invariant.1 (previous l taken) (omega (arith, taken)) s.requires.1 refl (whole c)
 
 -- the lowest urgency with that of the job at hand
-lowered : (c : After-lower-low) → let l = c.before.before.before.before in c.lower-low.result ≡ min l.loop-k.low (figure (start l).args.columns.now 1 (l.loop-k.k - 1))
-lowered c = c.lower-low.ensures ∙ rw c.figure.ensures
+lowered : (c : After-min-low) → let l = c.before.before.before.before in c.min-low.result ≡ min l.loop-k.low (figure (start l).args.table.now.columns 1 (l.loop-k.k - 1))
+lowered c = c.min-low.ensures ∙ rw c.urgency.ensures
 
 pub loop-k-init : goal.loop-k-init
 loop-k-init c =
     let s = c.before in
-    (refl, rw (add-one, c.figure-low.ensures) (sweeping_none s.requires.0 s.requires.2.room))
+    (refl, rw (add-one, c.urgency-low.ensures) (sweeping_none s.requires.0 s.requires.2.room))
 
 pub met-window-requires : goal.met-window-requires
 met-window-requires c =

@@ -1,12 +1,9 @@
 -- `sweep` raises the figure of each pair by the share of the jobs before hi. The loop's invariant: the pairs from k on are behind it, and the window ends
--- at hi. The measure is k. Assumes nothing.
+-- at hi. Assumes nothing.
 use Rattle.theory.proofs.PairShares.{Sweeping}
 use mathlib.Core.Path.{◌≡◌}
 use Rattle.completion.proofs.sweep.sweep.Given as goal
 
 abbrev pub invariant-loop-k : goal.invariant-loop-k
 invariant-loop-k l =
-    (l.window.hi ≡ l.hi) × Sweeping l.columns l.bound l.own l.j l.first l.hi l.initial.delay l.k l.low l.window.lo l.window.edge l.window.largest l.delay
-
-abbrev pub decreases-loop-k : goal.decreases-loop-k
-decreases-loop-k l = l.k
+    (l.window.hi ≡ l.hi) × Sweeping l.table.columns l.bound l.own l.j l.first l.hi l.initial.delay l.k l.low l.window.lo l.window.edge l.window.largest l.delay

@@ -9,23 +9,20 @@ loop-i-init c = let ready = c.requires.1 in delaying_none c.requires.0 ready.cou
 
 pub sweep_chain-requires : goal.sweep_chain-requires
 sweep_chain-requires c =
-    let l = c.before.before.before in
-    let able = l.requires.0 in
-    let h = l.loop-i.invariant in
+    let able = c.requires.0 in
+    let h = c.loop-i.invariant in
     let taken = c.loop-i-test.true in
     (delaying_able able h taken, delaying_counted able h taken, delaying_small able h)
 
 pub loop-i-smaller : goal.loop-i-smaller
 loop-i-smaller c =
-    let l = c.before.before.before.before.before in
     let taken = c.loop-i-test.true in
-    omega (arith, taken, c.figure-i.ensures, (delaying_ends l.requires.0 l.loop-i.invariant taken).later)
+    omega (arith, taken, c.end-i.ensures, (delaying_ends c.requires.0 c.loop-i.invariant taken).later)
 
 pub loop-i-preserved : goal.loop-i-preserved
 loop-i-preserved c =
-    let l = c.before.before.before.before.before in
     let e = c.sweep_chain.ensures in
-    rw c.figure-i.ensures (delaying_next l.requires.0 l.loop-i.invariant c.loop-i-test.true e.1 e.0)
+    rw c.end-i.ensures (delaying_next c.requires.0 c.loop-i.invariant c.loop-i-test.true e.1 e.0)
 
 pub returns : goal.returns
 returns c =

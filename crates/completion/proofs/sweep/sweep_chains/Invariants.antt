@@ -5,7 +5,7 @@ use Rattle.theory.proofs.PairDelays.{Delaying}
 use Rattle.completion.proofs.sweep.sweep_chains.Given as goal
 
 abbrev pub invariant-loop-i : goal.invariant-loop-i
-invariant-loop-i l = Delaying l.count l.columns l.bound l.own l.j l.i l.released l.delay
+invariant-loop-i l = Delaying l.table.count l.table.columns l.bound l.own l.j l.i l.carried.released l.carried.delay
 
 abbrev pub decreases-loop-i : goal.decreases-loop-i
-decreases-loop-i l = l.count - l.i
+decreases-loop-i l = l.table.count - l.i

@@ -2,8 +2,5 @@
 use Rattle.theory.proofs.ChainWindow.{SweptIn}
 use Rattle.completion.proofs.window.grown.Given as goal
 
-abbrev pub invariant-loop-lo : goal.invariant-loop-lo
-invariant-loop-lo l = SweptIn l.columns l.bound l.target l.from l.first l.lo l.hi l.edge l.largest
-
-abbrev pub decreases-loop-lo : goal.decreases-loop-lo
-decreases-loop-lo l = l.lo
+abbrev pub invariant-loop-p : goal.invariant-loop-p
+invariant-loop-p l = SweptIn l.table.columns l.bound l.target l.from l.first l.p l.hi l.edge l.largest

@@ -4,11 +4,11 @@ use Rattle.cudlomer.specs.Codes.{verdict_code}
 use mathlib.Core.Path.{sym, ap, ◌∙◌}
 use Rattle.cudlomer.proofs.codes.verdict_code.Goals as goal
 
-pub returns-in-Yes : goal.returns-in-Yes
-returns-in-Yes c = ap verdict_code (sym c.in-Yes.is)
+pub returns-in-Ok-true : goal.returns-in-Ok-true
+returns-in-Ok-true c = ap verdict_code (sym (rw c.in-Ok-true.field-0-test at c.in-Ok-true.is))
 
-pub returns-in-No : goal.returns-in-No
-returns-in-No c = ap verdict_code (sym c.in-No.is)
+pub returns-in-Ok-false : goal.returns-in-Ok-false
+returns-in-Ok-false c = ap verdict_code (sym (rw c.in-Ok-false.field-0-test at c.in-Ok-false.is))
 
-pub returns-in-Refused : goal.returns-in-Refused
-returns-in-Refused c = handed_on (record { sfits = c.negated.type_inv }) c.negated.ensures ∙ ap verdict_code (sym c.in-Refused.is)
+pub returns-in-Err : goal.returns-in-Err
+returns-in-Err c = handed_on (record { sfits = c.negated.type_inv }) c.negated.ensures ∙ ap verdict_code (sym c.in-Err.is)

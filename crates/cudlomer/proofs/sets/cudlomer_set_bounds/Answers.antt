@@ -6,23 +6,23 @@ use mathlib.Core.Path.{sym, ◌∙◌}
 use native.Mathlib.Omega.{arith}
 use Rattle.cudlomer.proofs.sets.cudlomer_set_bounds.Goals as goal
 
-pub returns-in-Refused : goal.returns-in-Refused
-returns-in-Refused c =
+pub returns-in-Err : goal.returns-in-Err
+returns-in-Err c =
     let held = c.held_set-set.ensures in
-    let refused = bounds_refused _ _ _ c.bounds_alone-answer.ensures _ _ c.in-Refused.is in
+    let refused = bounds_refused _ _ _ _ (sym c.in-Err.is ∙ c.bounds_alone.ensures) in
     rw (← held) (handed_on (record { sfits = c.negated.type_inv }) c.negated.ensures ∙ refused.0, refused.1)
 
-pub slice_bounds-each-end : goal.slice_bounds-each-end
-slice_bounds-each-end c = bounds_room _ _ _ c.bounds_alone-answer.ensures c.in_default.is
+pub slice_bounds-bounds-end : goal.slice_bounds-bounds-end
+slice_bounds-bounds-end c = bounds_room _ _ _ (sym c.in-Ok.is ∙ c.bounds_alone.ensures)
 
 pub slice_bounds-put-end : goal.slice_bounds-put-end
-slice_bounds-put-end c = sym (length-take-le _ _ (bounds_room _ _ _ c.bounds_alone-answer.ensures c.in_default.is))
+slice_bounds-put-end c = sym (length-take-le _ _ (bounds_room _ _ _ (sym c.in-Ok.is ∙ c.bounds_alone.ensures)))
 
 pub checked_code-requires : goal.checked_code-requires
-checked_code-requires c = omega (arith, bounds_few _ _ _ c.bounds_alone-answer.ensures c.in_default.is)
+checked_code-requires c = omega (arith, bounds_few _ _ _ (sym c.in-Ok.is ∙ c.bounds_alone.ensures))
 
-pub returns : goal.returns
-returns c =
+pub returns-in-Ok : goal.returns-in-Ok
+returns-in-Ok c =
     let held = c.held_set-set.ensures in
-    let done = bounds_done _ _ _ c.bounds_alone-answer.ensures c.in_default.is _ _ _ c.put.ensures in
+    let done = bounds_done _ _ _ (sym c.in-Ok.is ∙ c.bounds_alone.ensures) _ _ _ c.put.ensures in
     rw (← held) (handed_on (record { sfits = c.checked_code.type_inv }) c.checked_code.ensures ∙ done.0, done.1)

@@ -4,23 +4,22 @@ use Rattle.cudlomer.specs.Sets.{read_code, read_into}
 use Rattle.jobs.proofs.Accepted.{accepted}
 use Rattle.jobs.proofs.Sets.{length_jobs}
 use Rattle.jobs.specs.Jobs.{jobs_of}
-use Rattle.table.proofs.Accepting.{read_check, read_jobs, read_passed}
-use mathlib.Core.Path.{refl}
+use Rattle.table.proofs.Accepting.{read_passed}
+use mathlib.Core.Path.{refl, sym, ◌∙◌}
 use native.Mathlib.Omega.{arith}
 use Rattle.cudlomer.proofs.sets.cudlomer_set_read.Goals as goal
 
-pub returns-in-Refused : goal.returns-in-Refused
+pub returns-in-Err : goal.returns-in-Err
 unfolding read_code read_into
-returns-in-Refused c = rw (read_check c.read-reading.ensures c.in-Refused.is) (handed_on (record { sfits = c.negated.type_inv }) c.negated.ensures, refl)
+returns-in-Err c = rw (sym c.read.ensures ∙ c.in-Err.is) (handed_on (record { sfits = c.negated.type_inv }) c.negated.ensures, refl)
 
 pub put_set-requires : goal.put_set-requires
 put_set-requires c =
-    let s = c.read-reading.result.set in
-    omega (arith, length_jobs s, (accepted (jobs_of s) (read_passed _ c.read-reading.ensures c.in_default.is)).few)
+    let s = c.in-Ok.set in
+    omega (arith, length_jobs s, (accepted (jobs_of s) (read_passed _ _ c.read.ensures c.in-Ok.is)).few)
 
-pub returns : goal.returns
+pub returns-in-Ok : goal.returns-in-Ok
 unfolding read_code read_into
-returns c =
-    let is = c.read-reading.ensures in
+returns-in-Ok c =
     let put = c.put_set in
-    rw (read_check is c.in_default.is, ← read_jobs is) (handed_on (record { sfits = put.type_inv }) put.ensures.0, put.ensures.1)
+    rw (sym c.read.ensures ∙ c.in-Ok.is) (handed_on (record { sfits = put.type_inv }) put.ensures.0, put.ensures.1)

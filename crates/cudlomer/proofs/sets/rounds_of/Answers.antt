@@ -1,12 +1,20 @@
 -- `rounds_of` answers `rounds_code`. Assumes nothing.
-use Rattle.cudlomer.proofs.Bounding.{rounds_few, rounds_code_lem}
+use Rattle.cudlomer.proofs.Bounding.{rounds_few, rounds_are, rounds_refused}
 use Rattle.cudlomer.proofs.Negation.{handed_on}
-use mathlib.Core.Path.{◌∙◌}
+use mathlib.Core.Path.{sym, ◌∙◌}
+use mir.Facts.{to_z_pos}
+use mir.Syntax.{w64}
 use native.Mathlib.Omega.{arith}
 use Rattle.cudlomer.proofs.sets.rounds_of.Goals as goal
 
-pub checked_code-requires : goal.checked_code-requires
-checked_code-requires c = omega (arith, rounds_few _ _ c.itr_alone-answer.ensures)
+pub overflow_cast-result : goal.overflow_cast-result
+overflow_cast-result c = record { sfits = omega (arith, rounds_few _ _ (sym c.in-Ok.is ∙ c.itr_alone.ensures)) }
 
-pub returns : goal.returns
-returns c = handed_on (record { sfits = c.checked_code.type_inv }) c.checked_code.ensures ∙ rounds_code_lem _ _ c.itr_alone-answer.ensures
+pub returns-in-Ok : goal.returns-in-Ok
+returns-in-Ok c =
+    let is = sym c.in-Ok.is ∙ c.itr_alone.ensures in
+    to_z_pos w64 {n = c.in-Ok.answer.rounds} (omega (arith, rounds_few _ _ is)) ∙ rounds_are _ _ is
+
+pub returns-in-Err : goal.returns-in-Err
+returns-in-Err c =
+    handed_on (record { sfits = c.negated.type_inv }) c.negated.ensures ∙ rounds_refused _ _ (sym c.in-Err.is ∙ c.itr_alone.ensures)

@@ -5,6 +5,3 @@ use Rattle.decimal.proofs.unsigned.put_digits.Given as goal
 
 abbrev pub invariant-loop-place : goal.invariant-loop-place
 invariant-loop-place l = DigitsPut l.value l.count l.initial.rest l.place l.left l.rest
-
-abbrev pub decreases-loop-place : goal.decreases-loop-place
-decreases-loop-place l = l.place

@@ -1,6 +1,6 @@
--- `most_times` answers `most_times`, padded. The loop's invariant: the array is filled up to place n; what falls is how many places are still to come.
+-- `most_times` answers `most_times`, padded. The loop's invariant: the array is filled up to place n.
 -- Assumes nothing.
-use Prim.Native.Nat.{◌-◌, ◌≤◌}
+use Prim.Native.Nat.{◌≤◌}
 use Rattle.jobs.proofs.MostTimes.{most_at}
 use Rattle.jobs.specs.Limits.{max_jobs}
 use Rattle.laws.specs.Words.{tabulate, padded}
@@ -9,6 +9,3 @@ use Rattle.jobs.proofs.most.most_times.Given as goal
 
 abbrev pub invariant-loop-n : goal.invariant-loop-n
 invariant-loop-n l = (l.n ≤ l.count) × (l.times ≡ padded max_jobs 0 (tabulate 0 l.n (most_at l.set)))
-
-abbrev pub decreases-loop-n : goal.decreases-loop-n
-decreases-loop-n l = l.count - l.n

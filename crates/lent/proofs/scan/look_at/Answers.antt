@@ -17,9 +17,7 @@ unfolding complete
 returns c js e j =
     looked js _ _ _ e j
     c.is_following-follows.ensures
-    c.is_released-released.ensures
     c.since_release-elapsed.ensures
     (rw (c.number_at.ensures, c.number_at-2.ensures))
-    c.is_ready_record-ready.ensures
     c.ready_since-since.ensures
     c.best_after.ensures

@@ -4,6 +4,7 @@ use mathlib.Core.Bool.{Bool}
 use mathlib.Core.Path.{◌≡◌, refl, ap, ◌∙◌}
 use native.Mathlib.Omega.{arith}
 use lib.ListN.{length}
+use Rattle.std.specs.Prelude.{Option}
 use Rattle.machine.specs.declared.pick.Best.{Best}
 use Rattle.machine.specs.Ticks.{best_up_to}
 use Rattle.machine.proofs.Scanned.{scanned}
@@ -19,6 +20,6 @@ pub returns : goal.returns
 returns c =
     let a = c.args in
     let all : c.loop-i.i ≡ length a.jobs.now = omega arith in
-    ap (λ (f : Best × ℕ × ℕ × Bool × Bool × ℕ). f.0) c.loop-i.invariant.1
+    ap (λ (f : Option Best × ℕ × ℕ × Bool × Option ℕ). f.0) c.loop-i.invariant.1
     ∙ best_so_far a.jobs.now a.times.now a.state c.loop-i.i
     ∙ ap (λ (n : ℕ). best_up_to (table_of a.jobs.now) a.times.now a.state n) all

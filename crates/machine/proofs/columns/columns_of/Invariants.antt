@@ -1,5 +1,5 @@
 -- `columns_of` meets its contract. The loop's invariant: the columns are filled up to place n. Assumes nothing.
-use Prim.Native.Nat.{◌-◌, ◌≤◌}
+use Prim.Native.Nat.{◌≤◌}
 use Rattle.jobs.specs.Jobs.{jobs_of}
 use Rattle.jobs.specs.Limits.{max_jobs}
 use Rattle.machine.proofs.Figures.{Filled}
@@ -7,6 +7,3 @@ use Rattle.machine.proofs.columns.columns_of.Given as goal
 
 abbrev pub invariant-loop-n : goal.invariant-loop-n
 invariant-loop-n l = (l.count ≤ max_jobs) × Filled (jobs_of l.set) l.n l.last l.before l.columns
-
-abbrev pub decreases-loop-n : goal.decreases-loop-n
-decreases-loop-n l = l.count - l.n

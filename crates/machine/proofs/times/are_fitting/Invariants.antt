@@ -1,5 +1,5 @@
 -- `are_fitting` meets its contract. The loop's invariant: the first n running times are in range. Assumes nothing.
-use Prim.Native.Nat.{◌≤◌, ◌-◌}
+use Prim.Native.Nat.{◌≤◌}
 use Rattle.jobs.specs.Jobs.{jobs_of}
 use Rattle.laws.specs.Words.{every_below}
 use Rattle.machine.proofs.RunningTimes.{in_range}
@@ -10,6 +10,3 @@ use Rattle.machine.proofs.times.are_fitting.Given as goal
 
 abbrev pub invariant-loop-n : goal.invariant-loop-n
 invariant-loop-n l = (l.n ≤ l.count) × (every_below l.n (in_range (table_of (jobs_of l.set)) l.times) ≡ true)
-
-abbrev pub decreases-loop-n : goal.decreases-loop-n
-decreases-loop-n l = l.count - l.n

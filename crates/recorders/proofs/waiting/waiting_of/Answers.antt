@@ -1,5 +1,4 @@
--- `waiting_of` meets its contract. The loop's invariant: the columns are filled up to place n, and what is kept is of the job before; what falls is how
--- many jobs are to come. Assumes nothing.
+-- `waiting_of` meets its contract. The loop's invariant: the columns are filled up to place n, and what is kept is of the job before. Assumes nothing.
 use Rattle.jobs.proofs.Sets.{length_jobs, job_at_lem}
 use Rattle.jobs.specs.Jobs.{jobs_of, urgency_of}
 use Rattle.recorders.proofs.Neighbours.{kept_none, kept_next, kept_ready, waiting_none, waiting_next, waiting_all}

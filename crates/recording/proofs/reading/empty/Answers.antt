@@ -6,4 +6,4 @@ use mathlib.Core.Path.{ap}
 use Rattle.recording.proofs.reading.empty.Goals as goal
 
 pub returns : goal.returns
-returns c = ap (λ (r : Row). record { check = c.args.check; rows = replicate max_rows r; count = 0 }) c.none-none.ensures
+returns c = ap (λ (r : Row). record { rows = replicate max_rows r; count = 0 }) c.none-none.ensures

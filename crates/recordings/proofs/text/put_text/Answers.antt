@@ -1,5 +1,6 @@
 -- `put_text` leaves as much of the text as fits. Assumes nothing.
 use Prim.Native.Nat.{◌+◌, ◌≤◌, ◌<◌, ◌^◌}
+use Rattle.std.specs.Prelude.{IfSome}
 use Rattle.laws.proofs.Clipped.{put_then}
 use Rattle.laws.specs.Words.{ascii}
 use Rattle.recorders.specs.declared.compare.Compared.{Compared}
@@ -13,7 +14,7 @@ use Rattle.recordings.proofs.text.put_text.Goals as goal
 
 -- the three lines have room
 room : (compared : Compared)
-    → compared.difference.tick < 2 ^ 64
+    → IfSome compared.difference (λ tick. tick < 2 ^ 64)
     → length (legal_line (ascii "first") compared.first) + length (legal_line (ascii "second") compared.second) + length (difference_line compared.difference) ≤ max_compared_text
 unfolding compared_text
 room compared h =

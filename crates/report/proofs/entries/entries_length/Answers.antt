@@ -1,4 +1,4 @@
--- `entries_length` answers the length of the entries' lines. The loop's invariant: the sum is that of the first n rows; its measure: the rows left. Assumes nothing.
+-- `entries_length` answers the length of the entries' lines. The loop's invariant: the sum is that of the first n rows. Assumes nothing.
 use Prim.Native.Nat.{◌≤◌}
 use Rattle.laws.proofs.Pieces.{summed_none, summed_more, summed_end}
 use Rattle.report.proofs.EntryTexts.{part_row, part_few}

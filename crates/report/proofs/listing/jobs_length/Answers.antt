@@ -1,4 +1,4 @@
--- `jobs_length` answers the length of the jobs' lines. The loop's invariant: the sum is that of the first n rows; its measure: the rows left. Assumes nothing.
+-- `jobs_length` answers the length of the jobs' lines. The loop's invariant: the sum is that of the first n rows. Assumes nothing.
 use Rattle.laws.proofs.Pieces.{summed_none, summed_more, summed_end}
 use Rattle.report.proofs.TableTexts.{job_row, lines_set}
 use Rattle.texts.proofs.Lines.{lines_made}

@@ -5,7 +5,7 @@ use Rattle.jobs.proofs.Sets.{length_jobs}
 use Rattle.jobs.specs.Checks.{check_of}
 use Rattle.jobs.specs.Jobs.{jobs_of}
 use Rattle.jobs.specs.Limits.{max_jobs}
-use Rattle.jobs.specs.declared.refusal.Check.TheVariants.{Passed}
+use Rattle.std.specs.Prelude.{Ok}
 use Rattle.laws.proofs.Buffers.{Wrote, wrote_none, wrote_more, wrote_room, wrote_length, written_short}
 use Rattle.laws.specs.Words.{ascii}
 use Rattle.report.specs.Listing.{table_row, table_text, table_answer, table_left}
@@ -24,15 +24,15 @@ use Rattle.report.proofs.listing.table_text.Goals as goal
 abbrev header_line : List ℕ
 header_line = header ++ ascii "\r\n"
 
-pub returns-in-Refused : goal.returns-in-Refused
+pub returns-in-Err : goal.returns-in-Err
 unfolding table_answer table_left
-returns-in-Refused c =
-    let refused = sym c.check.ensures ∙ c.in-Refused.is in
+returns-in-Err c =
+    let refused = sym c.check.ensures ∙ c.in-Err.is in
     (rw refused, rw refused)
 
 pub jobs_length-requires : goal.jobs_length-requires
 jobs_length-requires c =
-    let passed : check_of (jobs_of c.args.set) ≡ Passed = (sym c.check.ensures ∙ c.in_default.is) in
+    let passed : check_of (jobs_of c.args.set) ≡ Ok tt = (sym c.check.ensures ∙ c.in_default.is) in
     let few : c.args.set.count ≤ max_jobs = (let s = c.args.set in
     omega (arith, length_jobs s, (accepted (jobs_of s) (passed)).few)) in
     few
@@ -45,7 +45,7 @@ unfolding table_answer table_left table_text
 returns-then-out-length c =
     let job_lines : List ℕ = (lines_text (map table_row (jobs_of c.args.set))) in
     let text : List ℕ = (header_line ++ job_lines) in
-    let passed : check_of (jobs_of c.args.set) ≡ Passed = (sym c.check.ensures ∙ c.in_default.is) in
+    let passed : check_of (jobs_of c.args.set) ≡ Ok tt = (sym c.check.ensures ∙ c.in_default.is) in
     let length-is : length (text) ≡ length header_line + c.jobs_length.result = (omega (arith, length-append header_line (job_lines), c.jobs_length.ensures.0)) in
     let short : length c.args.out.now < length (text) = omega (arith, length-is, c.if-out-length.true) in
     rw (passed) (answer_short (text) c.args.out.now short, sym (written_short (text) c.args.out.now short))
@@ -63,7 +63,7 @@ pub write_jobs-requires : goal.write_jobs-requires
 write_jobs-requires c =
     let job_lines : List ℕ = (lines_text (map table_row (jobs_of c.args.set))) in
     let text : List ℕ = (header_line ++ job_lines) in
-    let passed : check_of (jobs_of c.args.set) ≡ Passed = (sym c.check.ensures ∙ c.in_default.is) in
+    let passed : check_of (jobs_of c.args.set) ≡ Ok tt = (sym c.check.ensures ∙ c.in_default.is) in
     let few : c.args.set.count ≤ max_jobs = (let s = c.args.set in
     omega (arith, length_jobs s, (accepted (jobs_of s) (passed)).few)) in
     let length-is : length (text) ≡ length header_line + c.jobs_length.result = (omega (arith, length-append header_line (job_lines), c.jobs_length.ensures.0)) in
@@ -92,7 +92,7 @@ unfolding table_answer table_left table_text
 returns c =
     let job_lines : List ℕ = (lines_text (map table_row (jobs_of c.args.set))) in
     let text : List ℕ = (header_line ++ job_lines) in
-    let passed : check_of (jobs_of c.args.set) ≡ Passed = (sym c.check.ensures ∙ c.in_default.is) in
+    let passed : check_of (jobs_of c.args.set) ≡ Ok tt = (sym c.check.ensures ∙ c.in_default.is) in
     let length-is : length (text) ≡ length header_line + c.jobs_length.result = (omega (arith, length-append header_line (job_lines), c.jobs_length.ensures.0)) in
     let fits : length (text) ≤ length c.args.out.now = (omega (arith, length-is, c.if-out-length.false)) in
     let after-header : Wrote c.args.out.now 0 ([] ++ header) c.write_bytes-after_header.new.out c.write_bytes-after_header.result = (wrote_more header (wrote_none c.args.out.now 0 (omega arith)) c.write_bytes-after_header.ensures) in

@@ -1,4 +1,4 @@
--- `write_jobs` leaves the jobs' lines at the place. The loop's invariant: the first n of them stand there; its measure: the rows left. Assumes nothing.
+-- `write_jobs` leaves the jobs' lines at the place. The loop's invariant: the first n of them stand there. Assumes nothing.
 use Rattle.laws.proofs.Pieces.{pieces_none, pieces_same, pieces_room, pieces_more, pieces_end}
 use Rattle.report.proofs.TableTexts.{job_row, lines_set}
 use Rattle.texts.proofs.Lines.{lines_made}

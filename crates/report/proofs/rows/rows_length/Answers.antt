@@ -1,4 +1,4 @@
--- `rows_length` answers the length of the rows. The loop's invariant: the sum is that of the first n rows; its measure: the rows left. Assumes nothing.
+-- `rows_length` answers the length of the rows. The loop's invariant: the sum is that of the first n rows. Assumes nothing.
 use Rattle.laws.proofs.Pieces.{summed_none, summed_more, summed_end}
 use Rattle.report.proofs.RowTexts.{integers}
 use Rattle.report.proofs.RowsTexts.{figure_row}

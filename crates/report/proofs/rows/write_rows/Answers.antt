@@ -1,4 +1,4 @@
--- `write_rows` leaves the rows at the place. The loop's invariant: the first n of them stand there; its measure: the rows left. Assumes nothing.
+-- `write_rows` leaves the rows at the place. The loop's invariant: the first n of them stand there. Assumes nothing.
 use Rattle.laws.proofs.Pieces.{pieces_none, pieces_same, pieces_room, pieces_more, pieces_end}
 use Rattle.report.proofs.RowsTexts.{figure_row}
 use Rattle.texts.proofs.Lines.{lines_made}

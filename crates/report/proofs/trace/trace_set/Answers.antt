@@ -28,16 +28,16 @@ pub write_trace-requires : goal.write_trace-requires
 write_trace-requires c =
     let few : c.args.set.count ≤ max_jobs = (omega (arith, length_jobs c.args.set, (accepted (jobs_of c.args.set) c.requires).few)) in
     let ran : Ran (jobs_of c.args.set) c.trace.result c.trace.new.out = (most_ran (jobs_of c.args.set) c.requires _ (most_lent c.args.set c.most_times-most.result (few) c.most_times-most.ensures) (replicate (8 * max_jobs) 0) (omega (arith, length-replicate {A = ℕ} (8 * max_jobs) 0)) c.trace.ensures) in
-    ran_fits (ran) _ _ c.in-Entries.is
+    ran_fits (ran) _ c.in_ok-traced.was
 
-pub returns-in-Refused : goal.returns-in-Refused
-returns-in-Refused c =
+pub returns-in_err-traced : goal.returns-in_err-traced
+returns-in_err-traced c =
     let few : c.args.set.count ≤ max_jobs = (omega (arith, length_jobs c.args.set, (accepted (jobs_of c.args.set) c.requires).few)) in
     let ran : Ran (jobs_of c.args.set) c.trace.result c.trace.new.out = (most_ran (jobs_of c.args.set) c.requires _ (most_lent c.args.set c.most_times-most.result (few) c.most_times-most.ensures) (replicate (8 * max_jobs) 0) (omega (arith, length-replicate {A = ℕ} (8 * max_jobs) 0)) c.trace.ensures) in
-    absurd (ran_not_refused (ran) _ c.in-Refused.is)
+    absurd (ran_not_refused (ran) _ c.in_err-traced.was)
 
-pub returns-in-Entries : goal.returns-in-Entries
-returns-in-Entries c =
+pub returns : goal.returns
+returns c =
     let few : c.args.set.count ≤ max_jobs = (omega (arith, length_jobs c.args.set, (accepted (jobs_of c.args.set) c.requires).few)) in
     let ran : Ran (jobs_of c.args.set) c.trace.result c.trace.new.out = (most_ran (jobs_of c.args.set) c.requires _ (most_lent c.args.set c.most_times-most.result (few) c.most_times-most.ensures) (replicate (8 * max_jobs) 0) (omega (arith, length-replicate {A = ℕ} (8 * max_jobs) 0)) c.trace.ensures) in
-    rw (ran_text (ran) _ _ c.in-Entries.is) at c.write_trace.ensures
+    rw (ran_text (ran) _ c.in_ok-traced.was) at c.write_trace.ensures

@@ -1,46 +1,26 @@
 -- `read_header` answers whether the line ends behind the header, and its bytes. Assumes nothing.
-use Rattle.laws.proofs.Lists.{rest_is}
-use Rattle.table.proofs.Headers.{behind_not, prefix_within, behind_room, behind_here, behind-longer}
-use borrow.Author.Rules.{rules}
-use lib.ListN.{length}
+use Rattle.std.proofs.lemmas.Bool.Decides.{Decides-eqb}
+use Rattle.std.proofs.lemmas.Slice.Eq.{strip_prefix_is}
+use Rattle.table.proofs.Headers.{behind_not, behind_here, behind-longer, prefix_off, prefix_other}
 use mathlib.Core.Path.{sym, ◌∙◌}
 use Rattle.table.proofs.header.read_header.Goals as goal
 
-pub returns-then-not-starts_with : goal.returns-then-not-starts_with
-returns-then-not-starts_with c =
+pub returns-in_err-behind : goal.returns-in_err-behind
+returns-in_err-behind c =
     let a = c.args in
-    behind_not a.header.now a.text.now (sym c.starts_with.ensures ∙ c.if-not-starts_with.true)
+    let off = rw c.in_err-behind.was at (strip_prefix_is Decides-eqb a.text.now a.header.now c.strip_prefix.result c.strip_prefix.ensures.cases) in
+    c.from_residual.ensures ∙ behind_not a.header.now a.text.now (prefix_other a.header.now a.text.now off)
 
-pub slice_bounds-read_end-count : goal.slice_bounds-read_end-count
-slice_bounds-read_end-count c =
-    let begins = sym c.starts_with.ensures ∙ c.if-not-starts_with.false in
+pub returns-in_err-length : goal.returns-in_err-length
+returns-in_err-length c =
     let a = c.args in
-    let h = prefix_within a.header.now a.text.now begins in
-    search (rules, h)
-
-pub slice_bounds-read_end-start : goal.slice_bounds-read_end-start
-slice_bounds-read_end-start c =
-    let begins = sym c.starts_with.ensures ∙ c.if-not-starts_with.false in
-    let a = c.args in
-    let h = prefix_within a.header.now a.text.now begins in
-    search (rules, h)
-
-pub returns-in_default : goal.returns-in_default
-returns-in_default c =
-    let begins = sym c.starts_with.ensures ∙ c.if-not-starts_with.false in
-    let line_end = let a = c.args in rw (rest_is (length a.header.now) a.text.now) at c.read_end.ensures in
-    behind-longer _ _ begins (sym line_end ∙ c.in_default.is)
-
-pub overflow_add-result : goal.overflow_add-result
-overflow_add-result c =
-    let begins = sym c.starts_with.ensures ∙ c.if-not-starts_with.false in
-    let line_end = let a = c.args in rw (rest_is (length a.header.now) a.text.now) at c.read_end.ensures in
-    let a = c.args in
-    let h = behind_room a.header.now a.text.now begins _ (sym line_end ∙ c.in-Here.is) in
-    search (rules, h)
+    let off = rw c.in_ok-behind.was at (strip_prefix_is Decides-eqb a.text.now a.header.now c.strip_prefix.result c.strip_prefix.ensures.cases) in
+    let line_end = rw c.in_ok-behind.ensures.cases.1 at c.read_end.ensures in
+    c.from_residual-in_err-length.ensures ∙ behind-longer a.header.now a.text.now (prefix_off a.header.now a.text.now _ off) (sym line_end ∙ c.in_err-length.was)
 
 pub returns : goal.returns
 returns c =
-    let begins = sym c.starts_with.ensures ∙ c.if-not-starts_with.false in
-    let line_end = let a = c.args in rw (rest_is (length a.header.now) a.text.now) at c.read_end.ensures in
-    behind_here _ _ begins _ (sym line_end ∙ c.in-Here.is)
+    let a = c.args in
+    let off = rw c.in_ok-behind.was at (strip_prefix_is Decides-eqb a.text.now a.header.now c.strip_prefix.result c.strip_prefix.ensures.cases) in
+    let line_end = rw c.in_ok-behind.ensures.cases.1 at c.read_end.ensures in
+    behind_here a.header.now a.text.now (prefix_off a.header.now a.text.now _ off) _ (sym line_end ∙ c.in_ok-length.was)

@@ -5,13 +5,10 @@ use native.Mathlib.Omega.{arith}
 use Rattle.table.proofs.line.read_line.Goals as goal
 
 pub returns-then-columns-eq0 : goal.returns-then-columns-eq0
-returns-then-columns-eq0 c = c.malformed.ensures ∙ line_none _ _ c.if-columns-eq0.true
+returns-then-columns-eq0 c = line_none _ _ c.if-columns-eq0.true
 
 pub returns-then-columns-gt-MAX_COLUMNS : goal.returns-then-columns-gt-MAX_COLUMNS
-returns-then-columns-gt-MAX_COLUMNS c = c.malformed-then-columns-gt-MAX_COLUMNS.ensures ∙ line_many _ _ c.if-columns-gt-MAX_COLUMNS.true
-
-pub read_fields-requires : goal.read_fields-requires
-read_fields-requires c = (omega (arith, c.if-columns-eq0.false), omega (arith, c.if-columns-gt-MAX_COLUMNS.false))
+returns-then-columns-gt-MAX_COLUMNS c = line_many _ _ c.if-columns-gt-MAX_COLUMNS.true
 
 pub returns : goal.returns
 returns c = c.read_fields.ensures ∙ line_few _ _ (omega (arith, c.if-columns-gt-MAX_COLUMNS.false))

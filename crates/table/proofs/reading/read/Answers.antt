@@ -6,22 +6,22 @@ use mathlib.Core.Path.{sym, ◌∙◌}
 use Rattle.table.proofs.reading.read.Goals as goal
 
 pub returns-then-text-gt-MAX_TEXT : goal.returns-then-text-gt-MAX_TEXT
-returns-then-text-gt-MAX_TEXT c = c.refused.ensures ∙ too_long _ c.if-text-gt-MAX_TEXT.true
+returns-then-text-gt-MAX_TEXT c = too_long _ c.if-text-gt-MAX_TEXT.true
 
 pub returns-in_default : goal.returns-in_default
-returns-in_default c = c.refused-in_default.ensures ∙ no_header _ c.if-text-gt-MAX_TEXT.false (sym c.read_header.ensures ∙ c.in_default.is)
+returns-in_default c = no_header _ c.if-text-gt-MAX_TEXT.false (sym c.read_header.ensures ∙ c.in_default.is)
 
 pub slice_bounds-read_records-count : goal.slice_bounds-read_records-count
 slice_bounds-read_records-count c =
-    let behind = under-header c.args.text.now c.if-text-gt-MAX_TEXT.false _ (sym c.read_header.ensures ∙ c.in-Here.is) in
+    let behind = under-header c.args.text.now c.if-text-gt-MAX_TEXT.false _ (sym c.read_header.ensures ∙ c.in-Some.is) in
     let h = behind.0 in search (rules, h)
 
 pub slice_bounds-read_records-start : goal.slice_bounds-read_records-start
 slice_bounds-read_records-start c =
-    let behind = under-header c.args.text.now c.if-text-gt-MAX_TEXT.false _ (sym c.read_header.ensures ∙ c.in-Here.is) in
+    let behind = under-header c.args.text.now c.if-text-gt-MAX_TEXT.false _ (sym c.read_header.ensures ∙ c.in-Some.is) in
     let h = behind.0 in search (rules, h)
 
 pub returns : goal.returns
 returns c =
-    let behind = under-header c.args.text.now c.if-text-gt-MAX_TEXT.false _ (sym c.read_header.ensures ∙ c.in-Here.is) in
-    rw (rest_is c.in-Here.length c.args.text.now) at c.read_records.ensures ∙ behind.1
+    let behind = under-header c.args.text.now c.if-text-gt-MAX_TEXT.false _ (sym c.read_header.ensures ∙ c.in-Some.is) in
+    rw (rest_is c.in-Some.length c.args.text.now) at c.read_records.ensures ∙ behind.1

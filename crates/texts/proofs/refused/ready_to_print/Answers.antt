@@ -8,5 +8,5 @@ overflow_cast-result c =
     let short = refused_short _ _ c.write_refused.ensures.0 in
     let h = short in search (rules, h)
 
-pub returns-in-Refused : goal.returns-in-Refused
-returns-in-Refused c = rw c.in-Refused.is c.write_refused.ensures
+pub returns-in-Err : goal.returns-in-Err
+returns-in-Err c = rw c.in-Err.is c.write_refused.ensures

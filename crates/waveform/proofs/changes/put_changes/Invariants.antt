@@ -15,6 +15,3 @@ invariant-loop-n l =
     let piece : ℕ → List ℕ = λ k. lines_text (span_lines (last_change (spans_of js l.numbers k)) (span_at js l.numbers k)) in
     PiecesPut whole piece l.entries l.initial.out l.at l.out l.next l.n
     × (l.last ≡ last_change (spans_of js l.numbers l.n))
-
-abbrev pub decreases-loop-n : goal.decreases-loop-n
-decreases-loop-n l = l.entries - l.n

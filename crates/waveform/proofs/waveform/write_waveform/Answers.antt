@@ -1,5 +1,6 @@
 -- `write_waveform` answers `waveform_answer`, and leaves `waveform_left`. Assumes nothing.
 use Prim.Native.Nat.{ℕ, ◌*◌, ◌≤◌}
+use Rattle.std.proofs.lemmas.Result.{err_from_is_err_and}
 use Rattle.jobs.specs.Jobs.{jobs_of}
 use Rattle.jobs.specs.Limits.{max_jobs}
 use Rattle.waveform.proofs.Answered.{entered, waveform_refused, waveform_written}
@@ -13,14 +14,15 @@ room : 8 * max_jobs ≤ length (replicate {A = ℕ} (8 * max_jobs) 0)
 room = omega (arith, length-replicate {A = ℕ} (8 * max_jobs) 0)
 
 pub write_dump-requires : goal.write_dump-requires
-write_dump-requires c = (entered (jobs_of c.args.set) c.args.times.now (replicate (8 * max_jobs) 0) room c.trace.ensures _ _ c.in-Entries.is).drawn
+write_dump-requires c = (entered (jobs_of c.args.set) c.args.times.now (replicate (8 * max_jobs) 0) room c.trace.ensures _ c.in_ok-traced.was).drawn
 
-pub returns-in-Refused : goal.returns-in-Refused
-returns-in-Refused c =
-    let both = waveform_refused (jobs_of c.args.set) c.args.times.now (replicate (8 * max_jobs) 0) room c.trace.ensures _ c.in-Refused.is c.args.out.now in
-    record { value = both.0; out_after = both.1 }
+pub returns-in_err-traced : goal.returns-in_err-traced
+returns-in_err-traced c =
+    let p = err_from_is_err_and c.from_residual.result c.from_residual.ensures.1 in
+    let both = waveform_refused (jobs_of c.args.set) c.args.times.now (replicate (8 * max_jobs) 0) room c.trace.ensures _ c.in_err-traced.was c.args.out.now in
+    record { value = rw (p.1, p.2) both.0; out_after = both.1 }
 
-pub returns-in-Entries : goal.returns-in-Entries
-returns-in-Entries c =
-    let whole = waveform_written (entered (jobs_of c.args.set) c.args.times.now (replicate (8 * max_jobs) 0) room c.trace.ensures _ _ c.in-Entries.is) c.args.out.now in
+pub returns : goal.returns
+returns c =
+    let whole = waveform_written (entered (jobs_of c.args.set) c.args.times.now (replicate (8 * max_jobs) 0) room c.trace.ensures _ c.in_ok-traced.was) c.args.out.now in
     record { value = c.write_dump.ensures.result_value ∙ whole.0; out_after = c.write_dump.ensures.out_after ∙ whole.1 }

@@ -10,6 +10,3 @@ use Rattle.waveform.proofs.wires.put_values.Given as goal
 abbrev pub invariant-loop-n : goal.invariant-loop-n
 invariant-loop-n l =
     PiecesPut (λ k. lines_text (tabulate 0 k (λ u. value_line (eqb l.first u) u))) (λ k. line_text (value_line (eqb l.first k) k)) l.count l.initial.out l.at l.out l.next l.n
-
-abbrev pub decreases-loop-n : goal.decreases-loop-n
-decreases-loop-n l = l.count - l.n

@@ -10,6 +10,3 @@ use Rattle.waveform.proofs.wires.put_wires.Given as goal
 abbrev pub invariant-loop-n : goal.invariant-loop-n
 invariant-loop-n l =
     PiecesPut (λ k. lines_text (tabulate 0 k (wire_line (jobs_of l.set)))) (λ k. line_text (wire_line (jobs_of l.set) k)) l.count l.initial.out l.at l.out l.next l.n
-
-abbrev pub decreases-loop-n : goal.decreases-loop-n
-decreases-loop-n l = l.count - l.n
