@@ -13,7 +13,7 @@ use jobs::last::last_of;
 use jobs::refusal::Refusal;
 use jobs::set::JobSet;
 use texts::bytes::put_bytes;
-use texts::whole::write_whole;
+use texts::whole::{Text, write_whole};
 
 // Enough for the text of every accepted set, by the theorem `blocks_fit`.
 pub const MAX_BLOCKS_TEXT: usize = 24 * JobSet::MAX_JOBS * Delay::CHAINS;
@@ -29,19 +29,32 @@ fn put_text(set: JobSet, delays: [Delay; JobSet::MAX_JOBS], out: &mut [u8]) -> u
     put_rows(set, delays, last.chain as usize, out, rows)
 }
 
+// What delays the jobs of a set, for its text.
+#[derive(Clone, Copy)]
+struct DelaysText<'a> {
+    set: &'a JobSet,
+    delays: &'a [Delay; JobSet::MAX_JOBS],
+    ghost few: { (set.now.count ≤ max_jobs) × (chains_of (jobs_of set.now) ≤ max_chains) },
+    ghost short: { length (delays_text (jobs_of set.now) delays.now) ≤ max_blocks_text },
+}
+
+impl<'a> Text for DelaysText<'a> {
+    ghost bytes = { λ text. delays_text (jobs_of text.set.now) text.delays.now };
+
+    #[tactic(auto, using(laws::proofs::Clipped::put_whole))]
+    fn put(self, out: &mut [u8]) -> u32 {
+        put_text(*self.set, *self.delays, out) as u32
+    }
+}
+
 // Writes the text.
-#[tactic(auto, using(laws::proofs::Clipped::put_whole))]
-fn write_blocks(
-    set: JobSet,
-    delays: [Delay; JobSet::MAX_JOBS],
-    out: &mut [u8],
-) -> Result<u32, Refusal>
-    requires count_le_max_jobs { (set.count ≤ max_jobs) × (chains_of (jobs_of set) ≤ max_chains) }
-    requires delays_len_bound { length (delays_text (jobs_of set) delays) ≤ max_blocks_text }
-    ensures value { result ≡ answer_to (delays_text (jobs_of set) delays) out.old }
-    ensures out_after { out.new ≡ laws_written (delays_text (jobs_of set) delays) out.old }
+// What its proof may use is for the edits in must-fail/ that try the text first, so that there the right length is proved and the wrong one is not.
+#[tactic(auto, using(texts::proofs::TextAnswers::answer_short, texts::proofs::Trying::tried_short, texts::proofs::Trying::answer_tried, texts::proofs::Trying::written_tried))]
+fn write_blocks(text: DelaysText<'_>, out: &mut [u8]) -> Result<u32, Refusal>
+    ensures value { result ≡ answer_to (delays_text (jobs_of text.entry.set.now) text.entry.delays.now) out.old }
+    ensures out_after { out.new ≡ laws_written (delays_text (jobs_of text.entry.set.now) text.entry.delays.now) out.old }
 {
-    write_whole(|out: &mut [u8]| put_text(set, delays, out), out)
+    write_whole(text, out)
 }
 
 // From the text of a table to the text of its blocks: the refusals of reading first, then 9.
@@ -51,6 +64,9 @@ pub fn blocks_text(text: &[u8], out: &mut [u8]) -> Result<u32, Refusal>
 {
     let set = table::reading::read(text)?;
     let named = itr(set)?;
-    let delays = named.delays;
-    write_blocks(set, delays, out)
+    let text = DelaysText {
+        set: &set,
+        delays: &named.delays,
+    };
+    write_blocks(text, out)
 }

@@ -16,10 +16,11 @@ pub(crate) fn print_set<R: Print>(rt: &R, set: JobSet) -> io::Result<()> {
 }
 
 pub(crate) fn print_reading<R: Files + Print>(rt: &R, name: &[u8]) -> io::Result<()> {
+    print!(rt; " ")?;
     match read_file(rt, name)? {
-        Err(refusal) => print!(rt; " {refusal}"),
+        Err(refusal) => print!(rt; "{refusal}"),
         Ok(set) => {
-            print!(rt; " accepted ")?;
+            print!(rt; "accepted ")?;
             print_set(rt, set)
         }
     }

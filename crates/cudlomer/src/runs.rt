@@ -73,8 +73,8 @@ pub extern "C" fn cudlomer_set_steps(jobs: &[u64], times: &[u64]) -> i64
     ensures { result ≡ on_run (run_of (jobs_here jobs.now) times.now) refusal_code (λ run. pos run.steps) }
 {
     match run(held_set(jobs), times) {
-        Ok(run) => run.steps as i64,
-        Err(refusal) => negated(refusal),
+        Ok(run) => checked_code(Ok(()), run.steps),
+        Err(refusal) => checked_code(Err(refusal), 0),
     }
 }
 

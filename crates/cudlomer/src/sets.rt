@@ -33,7 +33,7 @@ pub(crate) fn rounds_of(set: JobSet) -> i64
     ensures { result ≡ rounds_code (jobs_of set) }
 {
     match itr_alone(set) {
-        Ok(answer) => answer.rounds as i64,
+        Ok(answer) => checked_code(Ok(()), answer.rounds),
         Err(refusal) => negated(refusal),
     }
 }

@@ -9,7 +9,7 @@ use crate::line::{put_difference, put_legal};
 use jobs::refusal::Refusal;
 use recorders::compare::{Compared, compare};
 use table::reading::read;
-use texts::whole::write_whole;
+use texts::whole::{Text, write_whole};
 
 // Enough for the text of every comparison, by the theorem `compared_fits`.
 pub const MAX_COMPARED_TEXT: usize = 64;
@@ -23,13 +23,27 @@ fn put_text(compared: Compared, out: &mut [u8]) -> usize
     put_difference(compared.difference, out, difference)
 }
 
+// A comparison, for its text.
+#[derive(Clone, Copy)]
+struct ComparedText(Compared);
+
+impl Text for ComparedText {
+    ghost bytes = { λ text. compared_text text.0 };
+
+    #[tactic(auto, using(laws::proofs::Clipped::put_whole))]
+    fn put(self, out: &mut [u8]) -> u32 {
+        put_text(self.0, out) as u32
+    }
+}
+
 // Writes the text.
-#[tactic(auto, using(laws::proofs::Clipped::put_whole))]
-fn write_compared(compared: Compared, out: &mut [u8]) -> Result<u32, Refusal>
-    ensures value { result ≡ answer_to (compared_text compared) out.old }
-    ensures out_after { out.new ≡ laws_written (compared_text compared) out.old }
+// What its proof may use is for the edits in must-fail/ that try the text first, so that there the right length is proved and the wrong one is not.
+#[tactic(auto, using(texts::proofs::TextAnswers::answer_short, texts::proofs::Trying::tried_short, texts::proofs::TextAnswers::answer_fits, texts::proofs::Trying::tried_fits))]
+fn write_compared(text: ComparedText, out: &mut [u8]) -> Result<u32, Refusal>
+    ensures value { result ≡ answer_to (compared_text text.0) out.old }
+    ensures out_after { out.new ≡ laws_written (compared_text text.0) out.old }
 {
-    write_whole(|out: &mut [u8]| put_text(compared, out), out)
+    write_whole(text, out)
 }
 
 // From the texts of a table and of two recordings to the text of their comparison: the refusals of the table, of the recordings, then 9.
@@ -44,5 +58,5 @@ pub fn recordings_text(
 {
     let set = read(table)?;
     let compared = compare(set, first, second)?;
-    write_compared(compared, out)
+    write_compared(ComparedText(compared), out)
 }

@@ -1,3 +1,4 @@
+pub mod Copying
 pub mod WordDigits
 pub mod Wholes
 pub mod TextAnswers

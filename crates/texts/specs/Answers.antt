@@ -34,3 +34,7 @@ print_length (Err refusal) buffer = written_length (refused_text refusal) buffer
 abbrev pub print_left : Result ℕ Refusal → List ℕ → List ℕ
 print_left (Ok n) buffer = buffer
 print_left (Err refusal) buffer = written (refused_text refusal) buffer
+
+-- The same for a text of a table's jobs: the buffer with this text at its start, or with the line of the refusal.
+abbrev pub print_left_for : (List Job → List ℕ) → List ℕ → List ℕ → List ℕ
+print_left_for text_of table buffer = print_left (answer_for text_of table buffer) (left_for text_of table buffer)

@@ -12,19 +12,37 @@ use jobs::most::most_times;
 use jobs::refusal::Refusal;
 use jobs::set::JobSet;
 use machine::trace::{MAX_NUMBERS, trace};
-use texts::whole::write_whole;
+use texts::whole::{Text, write_whole};
 
 // Enough for the waveform of every accepted set, by the theorem `waveform_fits`.
 pub const MAX_WAVEFORM: usize = 128 * JobSet::MAX_JOBS;
 
-// Writes the dump of the first entries.
-#[tactic(auto, using(laws::proofs::Clipped::put_whole))]
-fn write_dump(set: JobSet, numbers: &[u64], entries: usize, out: &mut [u8]) -> Result<u32, Refusal>
-    requires { Drawn (jobs_of set) numbers.now entries }
-    ensures result_value { let text = dump_of (jobs_of set) (spans_of (jobs_of set) numbers.now entries) in result ≡ answer_to text out.old }
-    ensures out_after { let text = dump_of (jobs_of set) (spans_of (jobs_of set) numbers.now entries) in out.new ≡ laws_written text out.old }
+// The first entries of a trace, for their dump.
+#[derive(Clone, Copy)]
+struct Dump<'a> {
+    set: &'a JobSet,
+    numbers: &'a [u64],
+    entries: usize,
+    ghost drawn: { Drawn (jobs_of set.now) numbers.now entries },
+}
+
+impl<'a> Text for Dump<'a> {
+    ghost bytes = { λ dump. let js = jobs_of dump.set.now in dump_of js (spans_of js dump.numbers.now dump.entries) };
+
+    #[tactic(auto, using(laws::proofs::Clipped::put_whole))]
+    fn put(self, out: &mut [u8]) -> u32 {
+        put_dump(*self.set, self.numbers, self.entries, out) as u32
+    }
+}
+
+// Writes the dump.
+// What its proof may use is for the edits in must-fail/ that try the text first, so that there the right length is proved and the wrong one is not.
+#[tactic(auto, using(texts::proofs::TextAnswers::answer_short, texts::proofs::Trying::tried_short, texts::proofs::Trying::answer_tried, texts::proofs::Trying::written_tried))]
+fn write_dump(dump: Dump<'_>, out: &mut [u8]) -> Result<u32, Refusal>
+    ensures value { let js = jobs_of dump.entry.set.now in result ≡ answer_to (dump_of js (spans_of js dump.entry.numbers.now dump.entry.entries)) out.old }
+    ensures out_after { let js = jobs_of dump.entry.set.now in out.new ≡ laws_written (dump_of js (spans_of js dump.entry.numbers.now dump.entry.entries)) out.old }
 {
-    write_whole(|out: &mut [u8]| put_dump(set, numbers, entries, out), out)
+    write_whole(dump, out)
 }
 
 // The waveform of a set's run with these running times: the refusals of the set first, then 8, then 9.
@@ -34,7 +52,12 @@ pub fn write_waveform(set: JobSet, times: &[u64], out: &mut [u8]) -> Result<u32,
 {
     let mut numbers = [0u64; MAX_NUMBERS];
     let traced = trace(set, times, &mut numbers)?;
-    write_dump(set, &numbers, traced.entries, out)
+    let dump = Dump {
+        set: &set,
+        numbers: &numbers,
+        entries: traced.entries,
+    };
+    write_dump(dump, out)
 }
 
 // From the text of a table to the waveform of the run with all most times: the refusals of reading first, then 9.

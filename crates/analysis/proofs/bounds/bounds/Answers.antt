@@ -1,8 +1,6 @@
 -- `bounds` answers `bounds_of`, algorithm by algorithm. Assumes nothing.
 use Rattle.analysis.proofs.Algorithms.{is_ert, is_cja, is_itr, is_unknown, without_rounds}
 use Rattle.analysis.specs.Answers.{bounds_of}
-use Rattle.jobs.specs.declared.refusal.Refusal.{Refusal}
-use Rattle.std.specs.Prelude.{Err}
 use borrow.Author.Rules.{rules}
 use mathlib.Core.Path.{sym, ap, ◌∙◌}
 use Rattle.analysis.proofs.bounds.bounds.Goals as goal
@@ -29,4 +27,4 @@ returns-in_err-check-in-Err c = rw (is_unknown c.args.set _ c.in-Err.ensures.1, 
 
 pub returns-in_ok-check-in-Err : goal.returns-in_ok-check-in-Err
 returns-in_ok-check-in-Err c =
-    rw (is_unknown c.args.set _ c.in-Err.ensures.1, sym c.check.ensures, c.in_ok-check-in-Err.was) (ap (λ (refusal : Refusal). Err refusal) c.in-Err.ensures.0)
+    rw (is_unknown c.args.set _ c.in-Err.ensures.1, sym c.check.ensures, c.in_ok-check-in-Err.was) (cc c.in-Err.ensures.0)

@@ -2,8 +2,6 @@
 use Rattle.analysis.proofs.Algorithms.{is_ert, is_cja, is_unknown, each_alone, itr_each_alone}
 use Rattle.analysis.specs.Answers.{bounds_of}
 use Rattle.completion.specs.Answers.{bounds_alone}
-use Rattle.jobs.specs.declared.refusal.Refusal.{Refusal}
-use Rattle.std.specs.Prelude.{Err}
 use mathlib.Core.Path.{sym, ap, ◌∙◌}
 use Rattle.analysis.proofs.bounds.bounds_alone.Goals as goal
 
@@ -27,7 +25,7 @@ returns-in-Err-itr_alone c =
 
 pub returns-in-Ok-check : goal.returns-in-Ok-check
 returns-in-Ok-check c =
-    rw (is_unknown c.args.set _ c.in-Err.ensures.1, sym c.check.ensures, c.in-Ok-check.is) (ap (λ (refusal : Refusal). Err refusal) c.in-Err.ensures.0)
+    rw (is_unknown c.args.set _ c.in-Err.ensures.1, sym c.check.ensures, c.in-Ok-check.is) (cc c.in-Err.ensures.0)
 
 pub returns-in-Err-check : goal.returns-in-Err-check
 returns-in-Err-check c = rw (is_unknown c.args.set _ c.in-Err.ensures.1, sym c.check.ensures, c.in-Err-check.is)

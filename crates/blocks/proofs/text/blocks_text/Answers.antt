@@ -26,15 +26,15 @@ returns-in_err-set c =
 pub returns-in_err-named : goal.returns-in_err-named
 returns-in_err-named c = absurd (itr_some _ _ (sym c.in_err-named.was ∙ c.itr.ensures) (read_passed _ _ c.read.ensures c.in_ok-set.was))
 
-pub write_blocks-requires : goal.write_blocks-requires
-write_blocks-requires c =
+pub invariant_of-text : goal.invariant_of-text
+invariant_of-text c =
     let set = c.in_ok-set.set in
     let passed : check_of (jobs_of set) ≡ Ok tt = read_passed _ _ c.read.ensures c.in_ok-set.was in
     let text_is = named_text set c.in_ok-named.named (sym c.in_ok-named.was ∙ c.itr.ensures) passed in
     let ok = accepted (jobs_of set) passed in
     record {
-      count_le_max_jobs = (omega (arith, length_jobs set, ok.few), chains-within (jobs_of set) ok);
-      delays_len_bound = omega (arith, ap length text_is, blocks_fit (jobs_of set) passed);
+      few = (omega (arith, length_jobs set, ok.few), chains-within (jobs_of set) ok);
+      short = omega (arith, ap length text_is, blocks_fit (jobs_of set) passed);
     }
 
 pub returns : goal.returns

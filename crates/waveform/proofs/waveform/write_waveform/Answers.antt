@@ -13,8 +13,8 @@ use Rattle.waveform.proofs.waveform.write_waveform.Goals as goal
 room : 8 * max_jobs ≤ length (replicate {A = ℕ} (8 * max_jobs) 0)
 room = omega (arith, length-replicate {A = ℕ} (8 * max_jobs) 0)
 
-pub write_dump-requires : goal.write_dump-requires
-write_dump-requires c = (entered (jobs_of c.args.set) c.args.times.now (replicate (8 * max_jobs) 0) room c.trace.ensures _ c.in_ok-traced.was).drawn
+pub invariant_of-dump : goal.invariant_of-dump
+invariant_of-dump c = record { drawn = (entered (jobs_of c.args.set) c.args.times.now (replicate (8 * max_jobs) 0) room c.trace.ensures _ c.in_ok-traced.was).drawn }
 
 pub returns-in_err-traced : goal.returns-in_err-traced
 returns-in_err-traced c =
@@ -25,4 +25,4 @@ returns-in_err-traced c =
 pub returns : goal.returns
 returns c =
     let whole = waveform_written (entered (jobs_of c.args.set) c.args.times.now (replicate (8 * max_jobs) 0) room c.trace.ensures _ c.in_ok-traced.was) c.args.out.now in
-    record { value = c.write_dump.ensures.result_value ∙ whole.0; out_after = c.write_dump.ensures.out_after ∙ whole.1 }
+    record { value = c.write_dump.ensures.value ∙ whole.0; out_after = c.write_dump.ensures.out_after ∙ whole.1 }
