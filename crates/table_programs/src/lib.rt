@@ -1,6 +1,8 @@
 // What the programs on one table have in common: the table comes from standard input, and the text that is made of it is printed.
 #![tactic(auto)]
 
+pub mod writer;
+
 ghost use Rattle.std.specs.Prelude.{◌≡◌, ◌⊎◌, List, ℕ, IfOk};
 ghost use Rattle.jobs.specs.declared.job.Job.{Job};
 ghost use Rattle.texts.specs.Answers.{answer_for, left_for, print_left_for};
@@ -37,3 +39,6 @@ pub fn print_written<R: Input + Print, T: TableText>(
     let length = ready_to_print(answer, out) as usize;
     print(rt, front(out, length))
 }
+
+#[cfg(test)]
+mod tests;

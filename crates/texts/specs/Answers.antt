@@ -1,5 +1,5 @@
 -- A text in a lent buffer: what its writer answers, what a program prints. Document 01, "Programs and the C side", and number 9. Assumes nothing.
-use Rattle.std.specs.Prelude.{Result, Ok, Err, ℕ, ◌≡◌, cond, List, ◌++◌, leb, length}
+use Rattle.std.specs.Prelude.{Result, Ok, Err, ℕ, ◌≡◌, ◌<◌, ◌≤◌, ◌⊎◌, cond, List, [], ◌++◌, leb, length}
 use Rattle.laws.specs.Words.{ascii, clipped, written, written_length}
 use Rattle.decimal.specs.Digits.{decimal}
 use Rattle.jobs.specs.{declared.job.Job.Job, declared.refusal.Refusal.Refusal, Refusals.number_of}
@@ -8,6 +8,12 @@ use Rattle.table.specs.Tables.{on_table}
 -- A buffer and what is left of it where this text was put at its start as far as it has room, with the length of the text between them.
 abbrev pub Puts : List ℕ → List ℕ → ℕ → List ℕ → Type 0
 Puts text before n after = (n ≡ length text) × (after ≡ clipped before 0 text)
+
+-- What is answered and left by what puts something: refusal 9 where a buffer has less room than is answered in a buffer of no bytes, and else what is put.
+abbrev pub PutsIfRoom : (List ℕ → ℕ → List ℕ → Type 0) → List ℕ → Result ℕ Refusal → List ℕ → Type 0
+PutsIfRoom puts before answer after =
+    (n : ℕ) × puts [] n []
+    × (((length before < n) × (answer ≡ Err Refusal.ShortBuffer) × (after ≡ before)) ⊎ ((n ≤ length before) × (answer ≡ Ok n) × ((m : ℕ) × puts before m after)))
 
 -- How many bytes a text takes in a buffer, or refusal 9.
 unfoldable pub answer_to : List ℕ → List ℕ → Result ℕ Refusal

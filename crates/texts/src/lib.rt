@@ -2,5 +2,6 @@
 #![tactic(auto)]
 
 pub mod bytes;
+pub mod putter;
 pub mod refused;
 pub mod whole;
