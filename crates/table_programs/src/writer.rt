@@ -1,7 +1,7 @@
 // What a writer makes of the table from standard input is printed, where its type says no text.
 ghost use Rattle.std.specs.Prelude.{◌≡◌, ◌⊎◌, List, ℕ, Result, IfOk};
 ghost use Rattle.jobs.specs.declared.refusal.Refusal.{Refusal};
-ghost use Rattle.texts.specs.Answers.{print_left};
+ghost use Rattle.texts.specs.Answers.{PrintsWritten};
 
 use jobs::refusal::Refusal;
 use std::io;
@@ -26,8 +26,8 @@ pub fn print_written_by<R: Input + Print, W: TableWriter>(
     writer: W,
     out: &mut [u8],
 ) -> io::Result<()>
-    ensures printed { IfOk result (λ _. (table : List ℕ) × (answer : Result ℕ Refusal) × (after : List ℕ) × W.writes writer table out.old answer after × (out.new ≡ print_left answer after)) }
-    ensures kept { (out.new ≡ out.old) ⊎ ((table : List ℕ) × (answer : Result ℕ Refusal) × (after : List ℕ) × W.writes writer table out.old answer after × (out.new ≡ print_left answer after)) }
+    ensures printed { IfOk result (λ _. PrintsWritten (W.writes writer) out.old out.new) }
+    ensures kept { (out.new ≡ out.old) ⊎ PrintsWritten (W.writes writer) out.old out.new }
 {
     let mut input = [0u8; MAX_TEXT + 1];
     let length = read_full(&mut rt.reader(), &mut input)?;

@@ -15,6 +15,10 @@ PutsIfRoom puts before answer after =
     (n : ℕ) × puts [] n []
     × (((length before < n) × (answer ≡ Err Refusal.ShortBuffer) × (after ≡ before)) ⊎ ((n ≤ length before) × (answer ≡ Ok n) × ((m : ℕ) × puts before m after)))
 
+-- This text is put each time.
+abbrev pub PutsAlways : (List ℕ → ℕ → List ℕ → Type 0) → List ℕ → Type 0
+PutsAlways puts text = (before : List ℕ) (n : ℕ) (after : List ℕ) → puts before n after → Puts text before n after
+
 -- How many bytes a text takes in a buffer, or refusal 9.
 unfoldable pub answer_to : List ℕ → List ℕ → Result ℕ Refusal
 answer_to text buffer = cond (leb (length text) (length buffer)) (Ok (length text)) (Err Refusal.ShortBuffer)
@@ -44,3 +48,7 @@ print_left (Err refusal) buffer = written (refused_text refusal) buffer
 -- The same for a text of a table's jobs: the buffer with this text at its start, or with the line of the refusal.
 abbrev pub print_left_for : (List Job → List ℕ) → List ℕ → List ℕ → List ℕ
 print_left_for text_of table buffer = print_left (answer_for text_of table buffer) (left_for text_of table buffer)
+
+-- The same for what writes something of a table: what it leaves of this buffer at some table, or the line of its refusal there.
+abbrev pub PrintsWritten : (List ℕ → List ℕ → Result ℕ Refusal → List ℕ → Type 0) → List ℕ → List ℕ → Type 0
+PrintsWritten writes buffer left = (table : List ℕ) × (answer : Result ℕ Refusal) × (after : List ℕ) × writes table buffer answer after × (left ≡ print_left answer after)

@@ -1,7 +1,7 @@
 // What a putter puts in a lent buffer that has room for it, where its type says no text.
 ghost use Rattle.std.specs.Prelude.{◌≡◌, List, ℕ};
 ghost use Rattle.laws.specs.Words.{written};
-ghost use Rattle.texts.specs.Answers.{answer_to, Puts, PutsIfRoom};
+ghost use Rattle.texts.specs.Answers.{answer_to, PutsIfRoom, PutsAlways};
 
 use jobs::refusal::Refusal;
 
@@ -19,8 +19,7 @@ pub trait Putter {
 // Where the same text is put each time it stands whole or not at all.
 pub fn write_whole_by<P: Putter>(putter: &P, out: &mut [u8]) -> Result<u32, Refusal>
     ensures each { PutsIfRoom (P.puts putter.now) out.old result out.new }
-    ensures whole { (text : List ℕ) → ((before : List ℕ) (n : ℕ) (after : List ℕ) → P.puts putter.now before n after → Puts text before n after) →
-        (result ≡ answer_to text out.old) × (out.new ≡ written text out.old) }
+    ensures whole { (text : List ℕ) → PutsAlways (P.puts putter.now) text → (result ≡ answer_to text out.old) × (out.new ≡ written text out.old) }
 {
     let length = putter.put(&mut out[..0]);
     if out.len() < length as usize {
